@@ -19,7 +19,9 @@ passes_none at images sent = record {
 }
 
 -- what is said of the moments may be weaker
-pub passes_weaker : (old new : View) (images images' : Image → Type 0) (sent sent' : ℕ → Type 0) → ((image : Image) → images image → images' image) → ((count : ℕ) → sent count → sent' count) → Passes old new images sent → Passes old new images' sent'
+pub passes_weaker : (old new : View) (images images' : Image → Type 0) (sent sent' : ℕ → Type 0)
+    → ((image : Image) → images image → images' image) → ((count : ℕ) → sent count → sent' count) → Passes old new images sent
+    → Passes old new images' sent'
 passes_weaker old new images images' sent sent' more more_sent passes = record {
   later = passes.later;
   past = passes.past;
@@ -30,7 +32,8 @@ passes_weaker old new images images' sent sent' more more_sent passes = record {
 }
 
 -- one call after another
-pub passes_then : (old mid new : View) (images : Image → Type 0) (sent : ℕ → Type 0) → Passes old mid images sent → Passes mid new images sent → Passes old new images sent
+pub passes_then : (old mid new : View) (images : Image → Type 0) (sent : ℕ → Type 0) → Passes old mid images sent
+    → Passes mid new images sent → Passes old new images sent
 passes_then old mid new images sent first second = record {
   later = omega (arith, first.later, second.later);
   past = λ time image within left. first.past time image within (second.past time image (omega (arith, within, first.later)) left);
@@ -67,10 +70,13 @@ sent_rises old new images passes = elim (cases_lt old.clock new.clock) [
 ]
 
 -- sends in a row
-pub sends_then_sends : (old mid new : View) → Passes old mid (Now old) (Between old mid) → Passes mid new (Now mid) (Between mid new) → Passes old new (Now old) (Between old new)
+pub sends_then_sends : (old mid new : View) → Passes old mid (Now old) (Between old mid) → Passes mid new (Now mid) (Between mid new)
+    → Passes old new (Now old) (Between old new)
 sends_then_sends old mid new first second =
     let low = sent_rises old mid (Now old) first in
     let high = sent_rises mid new (Now mid) second in
     passes_then old mid new (Now old) (Between old new)
-    (passes_weaker old mid (Now old) (Now old) (Between old mid) (Between old new) (λ image left. left) (λ count between. (between.0, omega (arith, between.1, high))) first)
-    (passes_weaker mid new (Now mid) (Now old) (Between mid new) (Between old new) (now_back old mid (Between old mid) first) (λ count between. (omega (arith, between.0, low), between.1)) second)
+    (passes_weaker old mid (Now old) (Now old) (Between old mid) (Between old new) (λ image left. left)
+    (λ count between. (between.0, omega (arith, between.1, high))) first)
+    (passes_weaker mid new (Now mid) (Now old) (Between mid new) (Between old new) (now_back old mid (Between old mid) first)
+    (λ count between. (omega (arith, between.0, low), between.1)) second)

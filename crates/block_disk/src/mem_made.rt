@@ -15,7 +15,8 @@ impl MemDisk {
         ensures zero { IfOk result (λ disk. (number : ℕ) → number < blocks → (mem_view disk).image number ≡ replicate block_size 0) }
         ensures rests { IfOk result (λ disk. Only (mem_view disk).image (Now (mem_view disk))) }
         ensures fails { IfOk result (λ disk. disk.fails.items ≡ fails.items) }
-        ensures counts { IfOk result (λ disk. (disk.calls ≡ 0) × (disk.reads ≡ 0) × (disk.syncs ≡ 0) × (disk.writes ≡ 0) × (disk.faults ≡ 0)) }
+        ensures counts { IfOk result (λ disk. (disk.calls ≡ 0) × (disk.reads ≡ 0) × (disk.syncs ≡ 0) × (disk.writes ≡ 0)
+            × (disk.faults ≡ 0)) }
     {
         let bytes = vec![in alloc; 0; BLOCK * blocks as usize]?;
         Ok(MemDisk {

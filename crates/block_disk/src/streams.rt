@@ -72,5 +72,6 @@ pub trait Streams: Drop {
 
     ghost sends_more: { (count more : ℕ) (old new : Self) → count ≤ more → sends count old new → sends more old new };
 
-    ghost sends_then: { (first second : ℕ) (old between new : Self) → sends first old between → sends second between new → sends (first + second) old new };
+    ghost sends_then: { (first second : ℕ) (old between new : Self) → sends first old between → sends second between new
+        → sends (first + second) old new };
 }

@@ -109,7 +109,8 @@ fn tear_call(
     requires within { block_size * blocks ≤ length left.old.items }
     requires old_within { block_size * blocks ≤ length old.now }
     requires new_within { block_size * blocks ≤ length new.now }
-    ensures torn { OnOk result (blocks_of left.new.items ≡ after_tear tear call.now (blocks_of old.now) (blocks_of new.now) (blocks_of left.old.items)) }
+    ensures torn { OnOk result (blocks_of left.new.items ≡ after_tear tear call.now (blocks_of old.now) (blocks_of new.now)
+        (blocks_of left.old.items)) }
     ensures len { length left.new.items ≡ length left.old.items }
 {
     match call {

@@ -24,12 +24,16 @@ pub trait World: Disk + Streams {
     /// A take leaves the disk and the number of bytes sent.
     ghost take_keeps: { (old new : Self) → Self.takes old new → DiskKept (Self.view old) (Self.view new) };
 
-    ghost take_passes: { (old new : Self) → Self.takes old new → Passes (Self.view old) (Self.view new) (Now (Self.view old)) (λ count. count ≡ sent_now (Self.view old)) };
+    ghost take_passes: { (old new : Self) → Self.takes old new
+        → Passes (Self.view old) (Self.view new) (Now (Self.view old)) (λ count. count ≡ sent_now (Self.view old)) };
 
     /// A send leaves the disk, and the number of bytes sent rises on the way to what it is then.
     ghost send_keeps: { (most : ℕ) (old new : Self) → Self.sends most old new → DiskKept (Self.view old) (Self.view new) };
 
-    ghost send_passes: { (most : ℕ) (old new : Self) → Self.sends most old new → Passes (Self.view old) (Self.view new) (Now (Self.view old)) (λ count. (sent_now (Self.view old) ≤ count) × (count ≤ sent_now (Self.view new))) };
+    ghost send_passes: { (most : ℕ) (old new : Self) → Self.sends most old new
+        → Passes (Self.view old) (Self.view new) (Now (Self.view old)) (λ count. (sent_now (Self.view old) ≤ count)
+        × (count ≤ sent_now (Self.view new))) };
 
-    ghost send_counts: { (most : ℕ) (old new : Self) → Self.sends most old new → sent_now (Self.view new) ≤ sent_now (Self.view old) + most };
+    ghost send_counts: { (most : ℕ) (old new : Self) → Self.sends most old new
+        → sent_now (Self.view new) ≤ sent_now (Self.view old) + most };
 }

@@ -2,7 +2,8 @@
 use Rattle.std.proofs.Common.{ℕ, List}
 use Rattle.catalog_page.specs.Fields.{record_bytes}
 use Rattle.catalog_page.specs.declared.errors.BadField.{BadField}
-use Rattle.catalog_page.specs.declared.errors.BadField.TheVariants.{Used, Length, Scale, Name, Step, Start, Slots, Root, Min, Max, Levels, Spare}
+use Rattle.catalog_page.specs.declared.errors.BadField.TheVariants.{Used, Length, Scale, Name, Step, Start, Slots, Root, Min, Max, Levels}
+use Rattle.catalog_page.specs.declared.errors.BadField.TheVariants.{Spare}
 use Rattle.catalog_page.specs.declared.errors.BadCatalog.{BadCatalog}
 use Rattle.catalog_page.specs.declared.errors.BadCatalog.TheVariants.{Kind, Reserved, Record, Unused}
 use Rattle.catalog_page.specs.Layout.{IsRecord, IsFirstBadField, KeepsLayout, IsFirstBad}

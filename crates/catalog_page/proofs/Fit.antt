@@ -1,5 +1,6 @@
 -- Which records keep the rules, and what they say.
-use Rattle.std.proofs.Common.{◌≡◌, ℕ, ℤ, pos, zero, suc, ◌+◌, ◌-◌, ◌<◌, ◌≤◌, ◌==◌, ◌&&◌, ◌↔◌, IsTrue, Bool, false, Option, None, Some, List, length, drop, get_or, inl, inr, refl, sym, ap, subst, ◌∙◌, arith, length-drop}
+use Rattle.std.proofs.Common.{◌≡◌, ℕ, ℤ, pos, zero, suc, ◌+◌, ◌-◌, ◌<◌, ◌≤◌, ◌==◌, ◌&&◌, ◌↔◌, IsTrue, Bool, false, Option, None, Some, List}
+use Rattle.std.proofs.Common.{length, drop, get_or, inl, inr, refl, sym, ap, subst, ◌∙◌, arith, length-drop}
 use Rattle.std.specs.Prelude.{◌≤ℤ◌, nat_le}
 use Rattle.std.specs.List.{list_all}
 use Rattle.std.specs.Int.Signed.{≤ℤ_refl}
@@ -40,7 +41,8 @@ ends_ordered : (s : Option Span) → IsProperIfAny s → least_of s ≤ℤ great
 ends_ordered None proper = ≤ℤ_refl (pos 0)
 ends_ordered (Some s) proper = proper.ordered
 
-ends_same : (start start' : ℤ) (step step' slots slots' : ℕ) → start ≡ start' → step ≡ step' → slots ≡ slots' → EndsInTime start step slots → EndsInTime start' step' slots'
+ends_same : (start start' : ℤ) (step step' slots slots' : ℕ) → start ≡ start' → step ≡ step' → slots ≡ slots' → EndsInTime start step slots
+    → EndsInTime start' step' slots'
 ends_same start start' step step' slots slots' same same' same'' ends =
     subst (λ (z : ℤ). EndsInTime z step' slots') same
     (subst (λ (n : ℕ). EndsInTime start n slots') same' (subst (λ (n : ℕ). EndsInTime start step n) same'' ends))
@@ -125,7 +127,8 @@ greatest_told root min max rule = elim (eqb_tells root 0) [
 pub record_spells : (fresh : ℕ) (b : List ℕ) → length b ≡ 96 → IsRecord fresh b → Spells (entry_in b) b
 unfolding entry_in
 record_spells fresh b whole r =
-    let size : length (name_at b) ≡ length_at b = length-take-le (length_at b) (drop 4 b) (omega (arith, length-drop 4 b, whole, r.len.1)) in
+    let size : length (name_at b) ≡ length_at b = length-take-le (length_at b) (drop 4 b)
+    (omega (arith, length-drop 4 b, whole, r.len.1)) in
     record {
       whole = whole;
       used = r.used;
@@ -148,7 +151,8 @@ name_byte e b s k low high =
     let j = k - 4 in
     let place : 4 + j ≡ k = omega (arith, low) in
     let within : j < length_at b = omega (arith, low, high, s.len) in
-    ap (λ (i : ℕ). get_or b i 0) (sym place) ∙ sym (get_or-drop 4 b j 0) ∙ sym (get_or-take (length_at b) (drop 4 b) j 0 within) ∙ ap (λ (l : List ℕ). get_or l j 0) s.name
+    ap (λ (i : ℕ). get_or b i 0) (sym place) ∙ sym (get_or-drop 4 b j 0) ∙ sym (get_or-take (length_at b) (drop 4 b) j 0 within)
+    ∙ ap (λ (l : List ℕ). get_or l j 0) s.name
 
 front_byte : (e : Entry) (a b : List ℕ) → Spells e a → Spells e b → (k : ℕ) → k < 4 → get_or a k 0 ≡ get_or b k 0
 front_byte e a b s s' zero low = s.used ∙ sym s'.used
@@ -169,7 +173,8 @@ named_byte e a b s s' k low high = elim (cases_lt k (4 + length e.name)) [
   ]
 ]
 
-short_byte : (e : Entry) (a b : List ℕ) → IsBytes a → IsBytes b → Spells e a → Spells e b → (k : ℕ) → 36 ≤ k → k < 60 → get_or a k 0 ≡ get_or b k 0
+short_byte : (e : Entry) (a b : List ℕ) → IsBytes a → IsBytes b → Spells e a → Spells e b → (k : ℕ) → 36 ≤ k → k < 60
+    → get_or a k 0 ≡ get_or b k 0
 short_byte e a b fits fits' s s' k low high = elim (cases_lt k 40) [
   | inl step ↦ number_bytes 4 36 a b fits fits' (s.step ∙ sym s'.step) k low step
   | inr start ↦ elim (cases_lt k 48) [
@@ -181,7 +186,8 @@ short_byte e a b fits fits' s s' k low high = elim (cases_lt k 40) [
   ]
 ]
 
-span_byte : (e : Entry) (a b : List ℕ) → IsBytes a → IsBytes b → Spells e a → Spells e b → (k : ℕ) → 60 ≤ k → k < 96 → get_or a k 0 ≡ get_or b k 0
+span_byte : (e : Entry) (a b : List ℕ) → IsBytes a → IsBytes b → Spells e a → Spells e b → (k : ℕ) → 60 ≤ k → k < 96
+    → get_or a k 0 ≡ get_or b k 0
 span_byte e a b fits fits' s s' k low high = elim (cases_lt k 64) [
   | inl gap ↦ s.spare.1 k low gap ∙ sym (s'.spare.1 k low gap)
   | inr min ↦ elim (cases_lt k 72) [

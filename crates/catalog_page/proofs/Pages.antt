@@ -1,5 +1,6 @@
 -- Records within pages, and pages of which a record is set.
-use Rattle.std.proofs.Common.{◌≡◌, ◌≢◌, ℕ, ◌+◌, ◌-◌, ◌*◌, ◌/◌, ◌%◌, ◌<◌, ◌≤◌, ◌⊎◌, ◌++◌, List, zero, suc, length, take, drop, get_or, inl, inr, refl, sym, ap, subst, ◌∙◌, arith, length-drop}
+use Rattle.std.proofs.Common.{◌≡◌, ◌≢◌, ℕ, ◌+◌, ◌-◌, ◌*◌, ◌/◌, ◌%◌, ◌<◌, ◌≤◌, ◌⊎◌, ◌++◌, List, zero, suc, length, take, drop, get_or, inl}
+use Rattle.std.proofs.Common.{inr, refl, sym, ap, subst, ◌∙◌, arith, length-drop}
 use Rattle.std.specs.Prelude.{replicate}
 use Rattle.std.proofs.Math.Seq.{take-append_seam, drop-append_seam}
 use Rattle.std.proofs.lemmas.Bool.{cases_lt, cases_order}
@@ -28,7 +29,8 @@ bytes_in : (page : List ℕ) (i : ℕ) → IsBlock page → i < 32 → IsBytes p
 bytes_in page i whole low fits k = elim (cases_lt k 96) [
   | inl less ↦ subst (λ (n : ℕ). n < 256) (sym (byte_in page i k less)) (fits (8 + 96 * i + k))
   | inr past ↦
-      subst (λ (n : ℕ). n < 256) (sym (get_or_past (record_bytes page i) k 0 (omega (arith, length_in page i whole low, past)))) (omega arith)
+      subst (λ (n : ℕ). n < 256) (sym (get_or_past (record_bytes page i) k 0 (omega (arith, length_in page i whole low, past))))
+      (omega arith)
 ]
 
 -- a record depends on its bytes alone
@@ -51,11 +53,13 @@ pub set_whole : (number : ℕ) (part old new : List ℕ) → IsSet number part o
 set_whole number part old new is =
     ap length is.set ∙ written_length (8 + 96 * number) old part (omega (arith, is.small, is.size, is.whole)) ∙ is.whole
 
-pub set_rest : (number : ℕ) (part old new : List ℕ) → IsSet number part old new → (k : ℕ) → (k < 8 + 96 * number) ⊎ (104 + 96 * number ≤ k) → get_or new k 0 ≡ get_or old k 0
+pub set_rest : (number : ℕ) (part old new : List ℕ) → IsSet number part old new → (k : ℕ) → (k < 8 + 96 * number) ⊎ (104 + 96 * number ≤ k)
+    → get_or new k 0 ≡ get_or old k 0
 set_rest number part old new is k (inl less) =
     ap (λ (l : List ℕ). get_or l k 0) is.set ∙ written_before (8 + 96 * number) k old part (omega (arith, is.small, is.whole)) less
 set_rest number part old new is k (inr more) =
-    ap (λ (l : List ℕ). get_or l k 0) is.set ∙ written_behind (8 + 96 * number) k old part (omega (arith, is.small, is.whole)) (omega (arith, more, is.size))
+    ap (λ (l : List ℕ). get_or l k 0) is.set ∙ written_behind (8 + 96 * number) k old part (omega (arith, is.small, is.whole))
+    (omega (arith, more, is.size))
 
 set_back : (at : ℕ) (old part : List ℕ) → at ≤ length old → length part ≡ 96 → take 96 (drop at (with_bytes old at part)) ≡ part
 unfolding with_bytes
@@ -72,7 +76,8 @@ set_itself number part old new is =
     ap (λ (l : List ℕ). take 96 (drop (8 + 96 * number) l)) is.set
     ∙ set_back (8 + 96 * number) old part (omega (arith, is.small, is.whole)) is.size
 
-pub set_others : (number : ℕ) (part old new : List ℕ) → IsSet number part old new → (i : ℕ) → i < 32 → i ≢ number → record_bytes new i ≡ record_bytes old i
+pub set_others : (number : ℕ) (part old new : List ℕ) → IsSet number part old new → (i : ℕ) → i < 32 → i ≢ number
+    → record_bytes new i ≡ record_bytes old i
 set_others number part old new is i low other =
     record_same i old new is.whole (set_whole number part old new is) low (λ k from to.
     set_rest number part old new is k (elim (cases_order i number) [
@@ -87,7 +92,8 @@ below_next i n low other = elim (cases_order i n) [
 ]
 
 -- with a record that keeps the rules the page keeps its layout, and has one more series where the record was of none
-pub set_keeps : (number count count' fresh : ℕ) (part old new : List ℕ) → IsSet number part old new → IsRecord fresh part → number < count' → count' ≤ 32 → count ≤ count'
+pub set_keeps : (number count count' fresh : ℕ) (part old new : List ℕ) → IsSet number part old new → IsRecord fresh part → number < count'
+    → count' ≤ 32 → count ≤ count'
     → ((i : ℕ) → i < count' → i ≢ number → i < count) → KeepsLayout count fresh old → KeepsLayout count' fresh new
 set_keeps number count count' fresh part old new is rules within few more behind keeps =
     record {
@@ -97,13 +103,16 @@ set_keeps number count count' fresh part old new is rules within few more behind
         λ k low high. set_rest number part old new is k (inr (omega (arith, low, is.small))) ∙ keeps.reserved.1 k low high,
       );
       used = λ i low. elim (cases_order i number) [
-        | inl same ↦ subst (λ (n : ℕ). HasRecord fresh new n) (sym same) (subst (λ (l : List ℕ). IsRecord fresh l) (sym (set_itself number part old new is)) rules)
+        | inl same ↦ subst (λ (n : ℕ). HasRecord fresh new n) (sym same)
+            (subst (λ (l : List ℕ). IsRecord fresh l) (sym (set_itself number part old new is)) rules)
         | inr differ ↦
             let other : i ≢ number = λ same. elim differ [ inl less ↦ omega (arith, less, same) | inr high ↦ omega (arith, high, same) ] in
-            subst (λ (l : List ℕ). IsRecord fresh l) (sym (set_others number part old new is i (omega (arith, low, few)) other)) (keeps.used i (behind i low other))
+            subst (λ (l : List ℕ). IsRecord fresh l) (sym (set_others number part old new is i (omega (arith, low, few)) other))
+            (keeps.used i (behind i low other))
       ];
       unused = λ i high low k from to.
-          let same : record_bytes new i ≡ record_bytes old i = set_others number part old new is i low (λ e. omega (arith, e, high, within)) in
+          let same : record_bytes new i ≡ record_bytes old i = set_others number part old new is i low
+          (λ e. omega (arith, e, high, within)) in
           ap (λ (l : List ℕ). get_or l k 0) same ∙ keeps.unused i (omega (arith, high, more)) low k from to;
     }
 
@@ -116,7 +125,8 @@ used_byte one other i fresh fresh' whole whole' fits fits' low r r' same =
     let b = record_bytes other i in
     let s : Spells (entry_at one i) a = record_spells fresh a (length_in one i whole low) r in
     let s' : Spells (entry_at other i) b = record_spells fresh' b (length_in other i whole' low) r' in
-    one_spelling (entry_at one i) a b (bytes_in one i whole low fits) (bytes_in other i whole' low fits') s (subst (λ e. Spells e b) (sym same) s')
+    one_spelling (entry_at one i) a b (bytes_in one i whole low fits) (bytes_in other i whole' low fits') s
+    (subst (λ e. Spells e b) (sym same) s')
 
 pub record Alike (one other : List ℕ) (count fresh fresh' : ℕ) : Type 0 where
   pub whole : IsBlock one
@@ -127,14 +137,17 @@ pub record Alike (one other : List ℕ) (count fresh fresh' : ℕ) : Type 0 wher
   pub keeps' : KeepsLayout count fresh' other
   pub same : (i : ℕ) → i < count → entry_at one i ≡ entry_at other i
 
-record_byte : (one other : List ℕ) (count fresh fresh' : ℕ) → Alike one other count fresh fresh' → (i j : ℕ) → i < 32 → j < 96 → get_or (record_bytes one i) j 0 ≡ get_or (record_bytes other i) j 0
+record_byte : (one other : List ℕ) (count fresh fresh' : ℕ) → Alike one other count fresh fresh' → (i j : ℕ) → i < 32 → j < 96
+    → get_or (record_bytes one i) j 0 ≡ get_or (record_bytes other i) j 0
 record_byte one other count fresh fresh' alike i j low within = elim (cases_lt i count) [
   | inl used ↦
-      ap (λ (l : List ℕ). get_or l j 0) (used_byte one other i fresh fresh' alike.whole alike.whole' alike.fits alike.fits' low (alike.keeps.used i used) (alike.keeps'.used i used) (alike.same i used))
+      ap (λ (l : List ℕ). get_or l j 0) (used_byte one other i fresh fresh' alike.whole alike.whole' alike.fits alike.fits' low
+      (alike.keeps.used i used) (alike.keeps'.used i used) (alike.same i used))
   | inr unused ↦ alike.keeps.unused i unused low j (omega arith) within ∙ sym (alike.keeps'.unused i unused low j (omega arith) within)
 ]
 
-within_byte : (one other : List ℕ) (count fresh fresh' : ℕ) → Alike one other count fresh fresh' → (k : ℕ) → 8 ≤ k → k < 3080 → get_or one k 0 ≡ get_or other k 0
+within_byte : (one other : List ℕ) (count fresh fresh' : ℕ) → Alike one other count fresh fresh' → (k : ℕ) → 8 ≤ k → k < 3080
+    → get_or one k 0 ≡ get_or other k 0
 within_byte one other count fresh fresh' alike k low high =
     let i = (k - 8) / 96 in
     let j = (k - 8) % 96 in
@@ -144,7 +157,8 @@ within_byte one other count fresh fresh' alike k low high =
     ∙ record_byte one other count fresh fresh' alike i j (omega (arith, low, high)) within
     ∙ byte_in other i j within ∙ ap (λ (n : ℕ). get_or other n 0) place
 
-front_byte : (one other : List ℕ) (count fresh fresh' : ℕ) → Alike one other count fresh fresh' → (k : ℕ) → k < 8 → get_or one k 0 ≡ get_or other k 0
+front_byte : (one other : List ℕ) (count fresh fresh' : ℕ) → Alike one other count fresh fresh' → (k : ℕ) → k < 8
+    → get_or one k 0 ≡ get_or other k 0
 front_byte one other count fresh fresh' alike zero low = alike.keeps.kind ∙ sym alike.keeps'.kind
 front_byte one other count fresh fresh' alike (suc k) low =
     alike.keeps.reserved.0 (suc k) (omega arith) low ∙ sym (alike.keeps'.reserved.0 (suc k) (omega arith) low)
@@ -193,7 +207,8 @@ no_series_byte page fresh keeps k low high = elim (cases_lt k 8) [
         let j = (k - 8) % 96 in
         let within : j < 96 = omega arith in
         let place : 8 + 96 * i + j ≡ k = omega (arith, from) in
-        ap (λ (n : ℕ). get_or page n 0) (sym place) ∙ sym (byte_in page i j within) ∙ keeps.unused i (omega arith) (omega (arith, from, to)) j (omega arith) within
+        ap (λ (n : ℕ). get_or page n 0) (sym place) ∙ sym (byte_in page i j within)
+        ∙ keeps.unused i (omega arith) (omega (arith, from, to)) j (omega arith) within
     | inr past ↦ keeps.reserved.1 k past high
   ]
 ]

@@ -1,5 +1,6 @@
 -- What the steps of spelling a record make, and what follows from a spelling.
-use Rattle.std.proofs.Common.{◌≡◌, ◌≢◌, ℕ, ℤ, ◌+◌, ◌<◌, ◌≤◌, ◌↔◌, ◌==◌, if◌then◌else◌, Bool, true, false, Option, None, Some, List, ◌++◌, length, take, drop, get_or, inl, inr, refl, sym, ap, ◌∙◌, arith}
+use Rattle.std.proofs.Common.{◌≡◌, ◌≢◌, ℕ, ℤ, ◌+◌, ◌<◌, ◌≤◌, ◌↔◌, ◌==◌, if◌then◌else◌, Bool, true, false, Option, None, Some, List, ◌++◌}
+use Rattle.std.proofs.Common.{length, take, drop, get_or, inl, inr, refl, sym, ap, ◌∙◌, arith}
 use Rattle.std.proofs.Math.Seq.{take-append_seam, drop-append_seam}
 use Rattle.std.proofs.lemmas.List.{length-take-le}
 use Rattle.std.proofs.lemmas.Bool.Decides.{eqb_tells}
@@ -47,7 +48,8 @@ behind e b0 b1 b2 b3 b4 s k high =
 -- bytes of the numbers
 number_bytes : (e : Entry) (b0 b1 b2 b3 b4 : List ℕ) → Steps e b0 b1 b2 b3 b4 → (k : ℕ) → 36 ≤ k → k < 64 → get_or b4 k 0 ≡ get_or b1 k 0
 number_bytes e b0 b1 b2 b3 b4 s k low high =
-    behind e b0 b1 b2 b3 b4 s k (omega (arith, low, s.short)) ∙ s.rest k (omega (arith, low)) (λ is. omega (arith, is, high)) ∙ s.below k high
+    behind e b0 b1 b2 b3 b4 s k (omega (arith, low, s.short)) ∙ s.rest k (omega (arith, low)) (λ is. omega (arith, is, high))
+    ∙ s.below k high
 
 -- bytes of the span
 span_bytes : (e : Entry) (b0 b1 b2 b3 b4 : List ℕ) → Steps e b0 b1 b2 b3 b4 → (k : ℕ) → 64 ≤ k → k ≢ 80 → get_or b4 k 0 ≡ get_or b2 k 0
@@ -56,7 +58,8 @@ span_bytes e b0 b1 b2 b3 b4 s k low other = behind e b0 b1 b2 b3 b4 s k (omega (
 -- bytes of no field
 blank_byte : (e : Entry) (b0 b1 b2 b3 b4 : List ℕ) → Steps e b0 b1 b2 b3 b4 → (k : ℕ) → 4 + length e.name ≤ k → k < 36 → get_or b4 k 0 ≡ 0
 blank_byte e b0 b1 b2 b3 b4 s k low high =
-    behind e b0 b1 b2 b3 b4 s k low ∙ s.rest k (omega (arith, low)) (λ is. omega (arith, is, high)) ∙ s.below k (omega (arith, high)) ∙ s.low k high ∙ s.blank k (omega (arith, high))
+    behind e b0 b1 b2 b3 b4 s k low ∙ s.rest k (omega (arith, low)) (λ is. omega (arith, is, high)) ∙ s.below k (omega (arith, high))
+    ∙ s.low k high ∙ s.blank k (omega (arith, high))
 
 read_back : (n : ℕ) (old name : List ℕ) → 4 ≤ length old → n ≡ length name → take n (drop 4 (with_bytes old 4 name)) ≡ name
 unfolding with_bytes
@@ -82,15 +85,18 @@ spelled e b0 b1 b2 b3 b4 s =
       slots = number_same 8 48 b1 b4 (λ k low high. number_bytes e b0 b1 b2 b3 b4 s k (omega (arith, low)) (omega (arith, high))) ∙ s.slots;
       root = number_same 4 56 b1 b4 (λ k low high. number_bytes e b0 b1 b2 b3 b4 s k (omega (arith, low)) (omega (arith, high))) ∙ s.root;
       min = signed_same 64 b2 b4 (λ k low high. span_bytes e b0 b1 b2 b3 b4 s k low (λ is. omega (arith, is, high))) ∙ s.min;
-      max = signed_same 72 b2 b4 (λ k low high. span_bytes e b0 b1 b2 b3 b4 s k (omega (arith, low)) (λ is. omega (arith, is, high))) ∙ s.max;
+      max = signed_same 72 b2 b4 (λ k low high. span_bytes e b0 b1 b2 b3 b4 s k (omega (arith, low)) (λ is. omega (arith, is, high)))
+          ∙ s.max;
       levels = behind e b0 b1 b2 b3 b4 s 80 (omega (arith, s.short)) ∙ s.levels;
       spare = (
         (
-          before e b0 b1 b2 b3 b4 s 3 (omega arith) ∙ s.rest 3 (omega arith) (λ is. omega (arith, is)) ∙ s.below 3 (omega arith) ∙ s.low 3 (omega arith) ∙ s.blank 3 (omega arith),
+          before e b0 b1 b2 b3 b4 s 3 (omega arith) ∙ s.rest 3 (omega arith) (λ is. omega (arith, is)) ∙ s.below 3 (omega arith)
+              ∙ s.low 3 (omega arith) ∙ s.blank 3 (omega arith),
           blank_byte e b0 b1 b2 b3 b4 s 35 (omega (arith, s.short)) (omega arith),
         ),
         λ k low high. number_bytes e b0 b1 b2 b3 b4 s k (omega (arith, low)) high ∙ s.high k low ∙ s.blank k (omega (arith, high)),
-        λ k low high. span_bytes e b0 b1 b2 b3 b4 s k (omega (arith, low)) (λ is. omega (arith, is, low)) ∙ s.above k (omega (arith, low)) ∙ s.high k (omega (arith, low)) ∙ s.blank k high,
+        λ k low high. span_bytes e b0 b1 b2 b3 b4 s k (omega (arith, low)) (λ is. omega (arith, is, low)) ∙ s.above k (omega (arith, low))
+            ∙ s.high k (omega (arith, low)) ∙ s.blank k high,
       );
     }
 
@@ -106,13 +112,15 @@ no_root root none = elim (eqb_tells root 0) [ inl is ↦ is.0 | inr more ↦ abs
 abbrev pub span_if : Bool → ℤ → ℤ → Option Span
 span_if none min max = if none then None else Some (record { min = min; max = max })
 
-span_told : (root : ℕ) (min max : ℤ) (s : Option Span) → (s ≡ None) ↔ (root ≡ 0) → min ≡ least_of s → max ≡ greatest_of s → span_if (root == 0) min max ≡ s
+span_told : (root : ℕ) (min max : ℤ) (s : Option Span) → (s ≡ None) ↔ (root ≡ 0) → min ≡ least_of s → max ≡ greatest_of s
+    → span_if (root == 0) min max ≡ s
 span_told root min max None rooted least greatest = ap (λ (b : Bool). span_if b min max) (no_root root (rooted.0 refl))
 span_told root min max (Some s) rooted least greatest =
     ap (λ (b : Bool). span_if b min max) (some_root root (λ zero. let no : Some s ≡ None = rooted.1 zero in cc))
     ∙ ap (λ (z : ℤ). span_if false z max) least ∙ ap (λ (z : ℤ). span_if false s.min z) greatest
 
-entries_same : (a b : Entry) → a.name ≡ b.name → a.scale ≡ b.scale → a.step ≡ b.step → a.start ≡ b.start → a.slots ≡ b.slots → a.root ≡ b.root → a.span ≡ b.span → a ≡ b
+entries_same : (a b : Entry) → a.name ≡ b.name → a.scale ≡ b.scale → a.step ≡ b.step → a.start ≡ b.start → a.slots ≡ b.slots
+    → a.root ≡ b.root → a.span ≡ b.span → a ≡ b
 entries_same a b name scale step start slots root span =
     ap (λ x. of x a.scale a.step a.start a.slots a.root a.span) name
     ∙ ap (λ x. of b.name x a.step a.start a.slots a.root a.span) scale
@@ -130,4 +138,5 @@ pub entry_told : (e : Entry) (bytes : List ℕ) → (e.span ≡ None) ↔ (e.roo
 unfolding entry_in
 entry_told e bytes rooted s =
     let same : (e.span ≡ None) ↔ (root_at bytes ≡ 0) = (λ none. s.root ∙ rooted.0 none, λ zero. rooted.1 (sym s.root ∙ zero)) in
-    entries_same (entry_in bytes) e s.name s.scale s.step s.start s.slots s.root (span_told (root_at bytes) (min_at bytes) (max_at bytes) e.span same s.min s.max)
+    entries_same (entry_in bytes) e s.name s.scale s.step s.start s.slots s.root
+    (span_told (root_at bytes) (min_at bytes) (max_at bytes) e.span same s.min s.max)

@@ -8,5 +8,6 @@ use Rattle.catalog_page.specs.Layout.{KeepsLayout}
 abbrev pub PagesAreTheirRecords : Type 0
 PagesAreTheirRecords =
     (one other : List ℕ) (count fresh fresh' : ℕ)
-    → IsBlock one → IsBlock other → ((k : ℕ) → slice_index one k < 256) → ((k : ℕ) → slice_index other k < 256) → KeepsLayout count fresh one
+    → IsBlock one → IsBlock other → ((k : ℕ) → slice_index one k < 256) → ((k : ℕ) → slice_index other k < 256)
+    → KeepsLayout count fresh one
     → KeepsLayout count fresh' other → ((i : ℕ) → i < count → entry_at one i ≡ entry_at other i) → one ≡ other

@@ -6,10 +6,12 @@ use Rattle.block_disk.specs.Blocks.{block_size}
 use Rattle.om3_coeff.specs.Keys.{page_levels}
 use Rattle.series_book.specs.Names.{is_name}
 use Rattle.series_book.specs.declared.limits.TheConstants.{MOST_SLOTS}
-use Rattle.catalog_page.specs.Fields.{record_bytes, used_at, length_at, scale_at, name_at, step_at, start_at, slots_at, root_at, min_at, max_at, levels_at}
+use Rattle.catalog_page.specs.Fields.{record_bytes, used_at, length_at, scale_at, name_at, step_at, start_at, slots_at, root_at, min_at}
+use Rattle.catalog_page.specs.Fields.{max_at, levels_at}
 use Rattle.catalog_page.specs.Entries.{IsRoot}
 use Rattle.catalog_page.specs.declared.errors.BadField.{BadField}
-use Rattle.catalog_page.specs.declared.errors.BadField.TheVariants.{Used, Length, Scale, Name, Step, Start, Slots, Root, Min, Max, Levels, Spare}
+use Rattle.catalog_page.specs.declared.errors.BadField.TheVariants.{Used, Length, Scale, Name, Step, Start, Slots, Root, Min, Max, Levels}
+use Rattle.catalog_page.specs.declared.errors.BadField.TheVariants.{Spare}
 use Rattle.catalog_page.specs.declared.errors.BadCatalog.{BadCatalog}
 use Rattle.catalog_page.specs.declared.errors.BadCatalog.TheVariants.{Kind, Reserved, Record, Unused}
 
@@ -98,7 +100,8 @@ IsFirstBadField Max fresh b =
 IsFirstBadField Levels fresh b =
     IsUsed b × IsLength b × IsScale b × IsName b × IsStep b × IsStart b × IsSlots b × HasRoot fresh b × IsMin b × IsMax b × (IsLevels b → ⊥)
 IsFirstBadField Spare fresh b =
-    IsUsed b × IsLength b × IsScale b × IsName b × IsStep b × IsStart b × IsSlots b × HasRoot fresh b × IsMin b × IsMax b × IsLevels b × (IsSpare b → ⊥)
+    IsUsed b × IsLength b × IsScale b × IsName b × IsStep b × IsStart b × IsSlots b × HasRoot fresh b × IsMin b × IsMax b × IsLevels b
+    × (IsSpare b → ⊥)
 
 -- The rules of a page with so many series.
 

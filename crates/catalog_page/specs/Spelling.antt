@@ -1,7 +1,8 @@
 -- Which bytes say what a record says.
 use Rattle.std.specs.Prelude.{ℕ, ◌≡◌, ◌+◌, List, length}
 use Rattle.om3_coeff.specs.Keys.{page_levels}
-use Rattle.catalog_page.specs.Fields.{used_at, length_at, scale_at, name_at, step_at, start_at, slots_at, root_at, min_at, max_at, levels_at}
+use Rattle.catalog_page.specs.Fields.{used_at, length_at, scale_at, name_at, step_at, start_at, slots_at, root_at, min_at, max_at}
+use Rattle.catalog_page.specs.Fields.{levels_at}
 use Rattle.catalog_page.specs.Entries.{Entry, least_of, greatest_of}
 use Rattle.catalog_page.specs.Layout.{IsClear, IsSpare}
 

@@ -60,7 +60,8 @@ pub(crate) fn bad_field(bytes: &[u8], fresh: u32) -> Option<BadField>
 pub(crate) fn bad_record(page: &[u8], count: u8, fresh: u32) -> Option<(u8, BadField)>
     requires whole { IsBlock page.now }
     requires few { count ≤ 32 }
-    ensures { MatchOption result ((i : ℕ) → i < count → HasRecord fresh page.now i) (λ bad. IsFirstBadRecord bad.0 bad.1 count fresh page.now) }
+    ensures { MatchOption result ((i : ℕ) → i < count
+        → HasRecord fresh page.now i) (λ bad. IsFirstBadRecord bad.0 bad.1 count fresh page.now) }
 {
     for number in 0..count {
         if let Some(field) = bad_field(bytes_of(page, number), fresh) {

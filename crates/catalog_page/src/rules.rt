@@ -3,7 +3,8 @@ ghost use Rattle.std.specs.Prelude.{◌≡◌, ◌<◌, ◌≤◌, ◌↔◌, le
 ghost use Rattle.block_disk.specs.Blocks.{IsBlock};
 ghost use Rattle.series_book.specs.declared.limits.TheConstants.{MOST_SLOTS};
 ghost use Rattle.catalog_page.specs.Fields.{length_at, slots_at};
-ghost use Rattle.catalog_page.specs.Layout.{IsLength, IsName, IsStep, IsStart, IsSlots, HasRoot, IsMin, IsMax, IsLevels, IsClear, HasGaps, IsSpare, IsReserved, IsUnused};
+ghost use Rattle.catalog_page.specs.Layout.{IsLength, IsName, IsStep, IsStart, IsSlots, HasRoot, IsMin, IsMax, IsLevels, IsClear, HasGaps};
+ghost use Rattle.catalog_page.specs.Layout.{IsSpare, IsReserved, IsUnused};
 
 use crate::fields::{bytes_of, long_at, name_of, short_at, value_at};
 use crate::layout::{

@@ -4,7 +4,8 @@ ghost use Rattle.block_disk.specs.Blocks.{IsBlock};
 ghost use Rattle.om3_coeff.specs.declared.span.Span.{Span};
 ghost use Rattle.series_book.specs.declared.limits.TheConstants.{MOST_SLOTS};
 ghost use Rattle.node_page.specs.Fields.{number_at, signed_at};
-ghost use Rattle.catalog_page.specs.Fields.{record_bytes, used_at, length_at, scale_at, step_at, start_at, slots_at, root_at, min_at, max_at, levels_at};
+ghost use Rattle.catalog_page.specs.Fields.{record_bytes, used_at, length_at, scale_at, step_at, start_at, slots_at, root_at, min_at};
+ghost use Rattle.catalog_page.specs.Fields.{max_at, levels_at};
 ghost use Rattle.catalog_page.specs.Entries.{entry_of, entry_at, IsEntry, least_of, greatest_of};
 ghost use Rattle.catalog_page.specs.Layout.{HasRecord, KeepsLayout};
 ghost use Rattle.catalog_page.specs.Spelling.{Spells};
@@ -139,7 +140,8 @@ pub fn set_record(bytes: &mut [u8], number: u8, series: &Record)
     ensures set { (fresh : ℕ) → IsEntry fresh (entry_of series.now) → HasRecord fresh bytes.new number }
     ensures kept { (count fresh : ℕ) → number < count → count ≤ 32 → IsEntry fresh (entry_of series.now) → KeepsLayout count fresh bytes.old
         → KeepsLayout count fresh bytes.new }
-    ensures added { (fresh : ℕ) → IsEntry fresh (entry_of series.now) → KeepsLayout number fresh bytes.old → KeepsLayout (number + 1) fresh bytes.new }
+    ensures added { (fresh : ℕ) → IsEntry fresh (entry_of series.now) → KeepsLayout number fresh bytes.old
+        → KeepsLayout (number + 1) fresh bytes.new }
 {
     put(
         bytes,

@@ -40,22 +40,27 @@ same_some : {X : Type 0} (a b : X) → ◌≡◌ {A = Option X} (Some a) (Some b
 same_some a b e = cc
 
 -- the failure of a view's frame, at the session's holding and on a grid of the view
-fails_at : (how : How) (key : Key) (view : ViewFrame) (old : List Holding) (h : Holding) (grid : Grid) → holding_of view.session old ≡ Some h → IsGridOf view grid
+fails_at : (how : How) (key : Key) (view : ViewFrame) (old : List Holding) (h : Holding) (grid : Grid)
+    → holding_of view.session old ≡ Some h → IsGridOf view grid
     → FailsView how key (View view) old → FailsAt how key view h grid
 fails_at how key view old h grid open_is is f =
     let views : f.view ≡ view = sym (same_view view f.view f.is) in
-    let opens : holding_of view.session old ≡ Some f.holding = subst (λ (v : ViewFrame). holding_of v.session old ≡ Some f.holding) views f.open_is in
+    let opens : holding_of view.session old ≡ Some f.holding = subst (λ (v : ViewFrame). holding_of v.session old ≡ Some f.holding) views
+    f.open_is in
     let holds : f.holding ≡ h = same_some f.holding h (sym opens ∙ open_is) in
-    let here : FailsAt how key view f.holding f.grid = subst (λ (v : ViewFrame). FailsAt how key v f.holding f.grid) views (record { first = f.first; so = f.how }) in
+    let here : FailsAt how key view f.holding f.grid = subst (λ (v : ViewFrame). FailsAt how key v f.holding f.grid) views
+    (record { first = f.first; so = f.how }) in
     let grids : f.grid ≡ grid = grid_one view f.grid grid (subst (λ (v : ViewFrame). IsGridOf v f.grid) views f.grid_is) is in
     subst (λ (g : Grid). FailsAt how key view h g) grids (subst (λ (x : Holding). FailsAt how key view x f.grid) holds here)
 
 -- ---- accepted, and not rejected
 
-not_view : (how : How) (key : Key) (frame : Frame) (old : List Holding) → FailsView how key frame old → ((view : ViewFrame) → frame ≡ View view → ⊥) → ⊥
+not_view : (how : How) (key : Key) (frame : Frame) (old : List Holding) → FailsView how key frame old
+    → ((view : ViewFrame) → frame ≡ View view → ⊥) → ⊥
 not_view how key frame old f other = other f.view f.is
 
-no_failure : (how : How) (key : Key) (frame : Frame) (drawing : Option Canvas) (old new : List Holding) → Accepts frame drawing old new → FailsView how key frame old → ⊥
+no_failure : (how : How) (key : Key) (frame : Frame) (drawing : Option Canvas) (old new : List Holding) → Accepts frame drawing old new
+    → FailsView how key frame old → ⊥
 no_failure how key (Done slots) drawing old new accepts f = not_view how key (Done slots) old f (λ view e. cc)
 no_failure how key (Refused number a b) drawing old new accepts f = not_view how key (Refused number a b) old f (λ view e. cc)
 no_failure how key (Opened number size) drawing old new accepts f = not_view how key (Opened number size) old f (λ view e. cc)
@@ -63,7 +68,8 @@ no_failure how key (Closed number) drawing old new accepts f = not_view how key 
 no_failure how key (View view) None old new accepts f = accepts
 no_failure how key (View view) (Some drawing) old new accepts f =
     let accepted : AcceptsView view accepts.0.cache drawing old new = accepts.2 in
-    let at : FailsAt how key view accepts.0 accepted.grid = fails_at how key view old accepts.0 accepted.grid accepts.1 accepted.grid_is f in
+    let at : FailsAt how key view accepts.0 accepted.grid = fails_at how key view old accepts.0 accepted.grid accepts.1 accepted.grid_is f
+    in
     accepted.usable key at.first.wanted at.first.fails
 no_failure how key (Rows rows) drawing old new accepts f = not_view how key (Rows rows) old f (λ view e. cc)
 no_failure how key (Live number on) drawing old new accepts f = not_view how key (Live number on) old f (λ view e. cc)
@@ -95,10 +101,13 @@ no_unknown (Rows rows) (Some drawing) old new n accepts is none = shut_at rows.s
 no_unknown (Live number on) drawing old new n accepts is none = shut_at number n old is none accepts.1
 no_unknown (Report report) drawing old new n accepts is none = none_some n is
 
-pub accepted_only : (frame : Frame) (drawing : Option Canvas) (old new : List Holding) (e : ClientError) → Accepts frame drawing old new → Rejects frame e old → e ≡ NoMemory
+pub accepted_only : (frame : Frame) (drawing : Option Canvas) (old new : List Holding) (e : ClientError) → Accepts frame drawing old new
+    → Rejects frame e old → e ≡ NoMemory
 accepted_only frame drawing old new (Missing key) accepts rejects = absurd (no_failure missing key frame drawing old new accepts rejects)
-accepted_only frame drawing old new (BadCoefficient key) accepts rejects = absurd (no_failure IsMisfit key frame drawing old new accepts rejects)
-accepted_only frame drawing old new (UnknownSession n) accepts rejects = absurd (no_unknown frame drawing old new n accepts rejects.0 rejects.1)
+accepted_only frame drawing old new (BadCoefficient key) accepts rejects = absurd
+    (no_failure IsMisfit key frame drawing old new accepts rejects)
+accepted_only frame drawing old new (UnknownSession n) accepts rejects = absurd
+    (no_unknown frame drawing old new n accepts rejects.0 rejects.1)
 accepted_only frame drawing old new NoMemory accepts rejects = refl
 
 -- ---- one cause
@@ -132,7 +141,8 @@ not_both_ways x y s =
     let some : told x ≡ Some s.other.so.coef = ap told (one_key missing IsMisfit x y s) ∙ s.other.so.told in
     none_some s.other.so.coef (sym none ∙ some)
 
-unknown_fails : (how : How) (key : Key) (frame : Frame) (n : ℕ) (old : List Holding) → FailsView how key frame old → session_in frame ≡ Some n → holding_of n old ≡ None → ⊥
+unknown_fails : (how : How) (key : Key) (frame : Frame) (n : ℕ) (old : List Holding) → FailsView how key frame old
+    → session_in frame ≡ Some n → holding_of n old ≡ None → ⊥
 unknown_fails how key frame n old f is none =
     let at : session_in (View f.view) ≡ Some n = ap (λ (z : Frame). session_in z) (sym f.is) ∙ is in
     shut_at f.view.session n old at none (is_open (holding_of f.view.session old) f.holding f.open_is)
@@ -146,10 +156,12 @@ rejected_once frame old NoMemory e one other = inl refl
 rejected_once frame old (Missing x) NoMemory one other = inr (inl refl)
 rejected_once frame old (Missing x) (Missing y) one other =
     inr (inr (ap (λ (k : Key). Missing k) (one_key missing missing x y (both missing missing x y frame old one other))))
-rejected_once frame old (Missing x) (BadCoefficient y) one other = absurd (not_both_ways x y (both missing IsMisfit x y frame old one other))
+rejected_once frame old (Missing x) (BadCoefficient y) one other = absurd
+    (not_both_ways x y (both missing IsMisfit x y frame old one other))
 rejected_once frame old (Missing x) (UnknownSession n) one other = absurd (unknown_fails missing x frame n old one other.0 other.1)
 rejected_once frame old (BadCoefficient x) NoMemory one other = inr (inl refl)
-rejected_once frame old (BadCoefficient x) (Missing y) one other = absurd (not_both_ways y x (both missing IsMisfit y x frame old other one))
+rejected_once frame old (BadCoefficient x) (Missing y) one other = absurd
+    (not_both_ways y x (both missing IsMisfit y x frame old other one))
 rejected_once frame old (BadCoefficient x) (BadCoefficient y) one other =
     inr (inr (ap (λ (k : Key). BadCoefficient k) (one_key IsMisfit IsMisfit x y (both IsMisfit IsMisfit x y frame old one other))))
 rejected_once frame old (BadCoefficient x) (UnknownSession n) one other = absurd (unknown_fails IsMisfit x frame n old one other.0 other.1)

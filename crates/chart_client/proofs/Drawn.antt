@@ -14,7 +14,8 @@ use Rattle.chart_client.specs.Drawing.{DrawsPoints}
 not_black : (c : Canvas) (x y : ℕ) → black_at c x y ≡ false → IsTrue (black_at c x y) → ⊥
 not_black c x y white black = let t : false ≡ true = sym white ∙ black in cc
 
-pub points_drawn : (grid : Grid) (lo hi : ℤ) (points : List (ℤ × ℤ)) (blank drawn : Canvas) (w h : ℕ) → HasCanvas grid w h → IsBlank w h blank
+pub points_drawn : (grid : Grid) (lo hi : ℤ) (points : List (ℤ × ℤ)) (blank drawn : Canvas) (w h : ℕ) → HasCanvas grid w h
+    → IsBlank w h blank
     → Adds (λ x y. InRaster (pixels grid lo hi points) x (pos y)) blank drawn → DrawsPoints grid lo hi points drawn
 points_drawn grid lo hi points blank drawn w h canvas is_blank adds = λ x y column row.
     let inside : x < blank.w = omega (arith, column, is_blank.width, canvas.columns) in
@@ -26,8 +27,10 @@ points_drawn grid lo hi points blank drawn w h canvas is_blank adds = λ x y col
     )
 
 -- the raster of points that lie where samples do is the samples' chart
-pub chart_drawn : (grid : Grid) (range : ValueRange) (samples : List Sample) (points : List (ℤ × ℤ)) (drawn : Canvas) (w h : ℕ) → HasCanvas grid w h → drawn.w ≡ w → drawn.h ≡ h
-    → pixels grid range.lo range.hi points ≡ places grid range samples → DrawsPoints grid range.lo range.hi points drawn → IsChart grid range samples drawn
+pub chart_drawn : (grid : Grid) (range : ValueRange) (samples : List Sample) (points : List (ℤ × ℤ)) (drawn : Canvas) (w h : ℕ)
+    → HasCanvas grid w h → drawn.w ≡ w → drawn.h ≡ h
+    → pixels grid range.lo range.hi points ≡ places grid range samples → DrawsPoints grid range.lo range.hi points drawn
+    → IsChart grid range samples drawn
 chart_drawn grid range samples points drawn w h canvas wide high placed draws = record {
   width = wide ∙ sym canvas.columns;
   height = high ∙ sym canvas.rows;

@@ -1,5 +1,6 @@
 -- A key's coefficient in a list that is in order.
-use Rattle.std.proofs.Common.{ℕ, suc, ◌≡◌, ◌≢◌, ◌+◌, ◌<◌, ◌≤◌, inl, inr, Bool, true, false, cond, List, [], ◌∷◌, length, get_or, refl, sym, ◌∙◌, ap₂, subst, arith, pos}
+use Rattle.std.proofs.Common.{ℕ, suc, ◌≡◌, ◌≢◌, ◌+◌, ◌<◌, ◌≤◌, inl, inr, Bool, true, false, cond, List, [], ◌∷◌, length, get_or, refl, sym}
+use Rattle.std.proofs.Common.{◌∙◌, ap₂, subst, arith, pos}
 use Rattle.std.proofs.lemmas.Bool.{cases_lt}
 use Rattle.std.proofs.lemmas.List.{get_or_default}
 use Rattle.std.specs.Prelude.{Option, Some, None, AllPairs}
@@ -44,7 +45,8 @@ same_or_apart a b forth back = elim (cases_lt b.level a.level) [
 -- no two keys of a list in order are the same
 pub distinct_in_order : (list : List (Key × Coef)) → AllPairs Precedes list → AreDistinct list
 distinct_in_order list order i j d less within = λ same.
-    not_itself (get_or list j d).0 (subst (λ (k : Key). ComesBefore k (get_or list j d).0) same (precedes_before (get_or list i d) (get_or list j d) (order i j d less within)))
+    not_itself (get_or list j d).0 (subst (λ (k : Key). ComesBefore k (get_or list j d).0) same
+    (precedes_before (get_or list i d) (get_or list j d) (order i j d less within)))
 
 abbrev pub no_entry : Key × Coef
 no_entry = (record { level = 0; index = 0 }, record { left = false; right = false; dmin = pos 0; dmax = pos 0 })
@@ -61,7 +63,8 @@ narrowed_none list key = record {
   behind = λ i d more within. absurd (omega (arith, more, within));
 }
 
-pub narrowed_up : (list : List (Key × Coef)) (key : Key) (from to middle next : ℕ) (x : Key × Coef) → AllPairs Precedes list → Narrowed list key from to
+pub narrowed_up : (list : List (Key × Coef)) (key : Key) (from to middle next : ℕ) (x : Key × Coef) → AllPairs Precedes list
+    → Narrowed list key from to
     → middle < to → next ≡ middle + 1 → x ≡ get_or list middle x → ComesBefore x.0 key → Narrowed list key next to
 narrowed_up list key from to middle next x order h less is at before = record {
   order = omega (arith, less, is);
@@ -79,7 +82,8 @@ narrowed_up list key from to middle next x order h less is at before = record {
   behind = h.behind;
 }
 
-pub narrowed_down : (list : List (Key × Coef)) (key : Key) (from to middle : ℕ) (x : Key × Coef) → AllPairs Precedes list → Narrowed list key from to
+pub narrowed_down : (list : List (Key × Coef)) (key : Key) (from to middle : ℕ) (x : Key × Coef) → AllPairs Precedes list
+    → Narrowed list key from to
     → from ≤ middle → middle < to → x ≡ get_or list middle x → (ComesBefore x.0 key → ⊥) → Narrowed list key from middle
 narrowed_down list key from to middle x order h low less at behind = record {
   order = low;
@@ -98,7 +102,8 @@ narrowed_down list key from to middle x order h low less at behind = record {
 }
 
 -- an entry is the key's
-pub entry_found : (series : ℕ) (list : List (Key × Coef)) (key : Key) (middle : ℕ) (x : Key × Coef) → AllPairs Precedes list → middle < length list
+pub entry_found : (series : ℕ) (list : List (Key × Coef)) (key : Key) (middle : ℕ) (x : Key × Coef) → AllPairs Precedes list
+    → middle < length list
     → x ≡ get_or list middle x → (ComesBefore x.0 key → ⊥) → (ComesBefore key x.0 → ⊥) → Some x.1 ≡ sent_for series list key
 entry_found series list key middle x order within at forth back =
     let same : x.0 ≡ key = same_or_apart x.0 key forth back in
@@ -107,24 +112,28 @@ entry_found series list key middle x order within at forth back =
     sym (subst (λ (k : Key). sent_for series list k ≡ Some x.1) same
     (subst (λ (e : Key × Coef). sent_for series list e.0 ≡ Some e.1) (sym at) found))
 
-missed : (series : ℕ) (list : List (Key × Coef)) (key : Key) → ((i : ℕ) (d : Key × Coef) → i < length list → (get_or list i d).0 ≢ key) → sent_for series list key ≡ None
+missed : (series : ℕ) (list : List (Key × Coef)) (key : Key) → ((i : ℕ) (d : Key × Coef) → i < length list → (get_or list i d).0 ≢ key)
+    → sent_for series list key ≡ None
 missed series [] key apart = refl
 missed series (e ∷ es) key apart =
     let rest : sent_for series es key ≡ None = missed series es key (λ i d within. apart (suc i) d (omega (arith, within))) in
     let first : e.0 ≢ key = apart 0 e (omega arith) in
-    elim (key_eq (series_key series key) (series_key series e.0)) as (λ (b : Bool). key_eq (series_key series key) (series_key series e.0) ≡ b → cond b (Some e.1) (sent_for series es key) ≡ None) [
+    elim (key_eq (series_key series key) (series_key series e.0)) as
+    (λ (b : Bool). key_eq (series_key series key) (series_key series e.0) ≡ b → cond b (Some e.1) (sent_for series es key) ≡ None) [
       | true ↦ λ same. absurd (first (sym (key_from series key e.0 (key_exact (series_key series key) (series_key series e.0) same))))
       | false ↦ λ other. rest
     ] refl
 
 -- no entry is the key's where all come before it
-pub none_left : (series : ℕ) (list : List (Key × Coef)) (key : Key) (from to : ℕ) → Narrowed list key from to → from ≡ length list → None ≡ sent_for series list key
+pub none_left : (series : ℕ) (list : List (Key × Coef)) (key : Key) (from to : ℕ) → Narrowed list key from to → from ≡ length list
+    → None ≡ sent_for series list key
 none_left series list key from to h all =
     sym (missed series list key (λ i d within. λ same.
     not_itself key (subst (λ (k : Key). ComesBefore k key) same (h.before i d (omega (arith, within, all))))))
 
 -- no entry is the key's where the first one that doesn't come before it is behind it
-pub none_found : (series : ℕ) (list : List (Key × Coef)) (key : Key) (from to : ℕ) (x : Key × Coef) → AllPairs Precedes list → Narrowed list key from to
+pub none_found : (series : ℕ) (list : List (Key × Coef)) (key : Key) (from to : ℕ) (x : Key × Coef) → AllPairs Precedes list
+    → Narrowed list key from to
     → from < length list → x ≡ get_or list from x → ComesBefore key x.0 → None ≡ sent_for series list key
 none_found series list key from to x order h inside at behind =
     sym (missed series list key (λ i d within. λ same.
@@ -133,7 +142,8 @@ none_found series list key from to x order h inside at behind =
     elim (cases_lt i from) [
       | inl low ↦ not_itself key (subst (λ (k : Key). ComesBefore k key) same (h.before i d low))
       | inr high ↦ elim (cases_lt from i) [
-        | inl under ↦ not_itself key (subst (λ (k : Key). ComesBefore key k) same (before_on key (get_or list from d).0 (get_or list i d).0 mid
+        | inl under ↦ not_itself key (subst (λ (k : Key). ComesBefore key k) same
+            (before_on key (get_or list from d).0 (get_or list i d).0 mid
             (precedes_before (get_or list from d) (get_or list i d) (order from i d under within))))
         | inr over ↦
             (let at_it : from ≡ i = omega (arith, over, high) in

@@ -105,7 +105,8 @@ no_failure f e = cc
 same_failure : (f g : Failure) → ◌≡◌ {A = Option Failure} (Some f) (Some g) → f.key ≡ g.key
 same_failure f g e = let h : f ≡ g = cc in ap (λ x. x.key) h
 
-found_first : (seen : Seen) (axis : Axis) (grid : Grid) (lo hi : ℤ) (c : ℕ) (x : Option Failure) → ((f : Failure) → x ≡ Some f → IsGood seen axis grid lo hi c f)
+found_first : (seen : Seen) (axis : Axis) (grid : Grid) (lo hi : ℤ) (c : ℕ) (x : Option Failure)
+    → ((f : Failure) → x ≡ Some f → IsGood seen axis grid lo hi c f)
     → IsFirstOf seen axis.slots (IsFound seen axis grid lo hi c x) x
 found_first seen axis grid lo hi c None good = λ k found fails. no_failure found.of.failure found.of.is
 found_first seen axis grid lo hi c (Some f) good =
@@ -117,12 +118,20 @@ found_first seen axis grid lo hi c (Some f) good =
           not_itself f.key (subst (λ (w : Key). ComesBefore w f.key) (sym same) less);
     }
 
-failing_of : (seen : Seen) (axis : Axis) (grid : Grid) (lo hi : ℤ) (c : ℕ) (k : Key) → IsWantedIn seen axis grid lo hi c k → Fails seen axis.slots k → IsFailing seen axis.slots k
-failing_of seen axis grid lo hi c k wanted fails = record { node = wanted.node; span = wanted.span; known_so = wanted.known_so; fails = fails }
+failing_of : (seen : Seen) (axis : Axis) (grid : Grid) (lo hi : ℤ) (c : ℕ) (k : Key) → IsWantedIn seen axis grid lo hi c k
+    → Fails seen axis.slots k → IsFailing seen axis.slots k
+failing_of seen axis grid lo hi c k wanted fails = record {
+  node = wanted.node;
+  span = wanted.span;
+  known_so = wanted.known_so;
+  fails = fails;
+}
 
 -- the earlier one of the failures from the two sides is the first in the column
-pub column_first : FlatBelow → (seen : Seen) (axis : Axis) (grid : Grid) (lo hi : ℤ) (c a b : ℕ) (near far : End) (r : Option Failure) → IsColumn axis grid c a b
-    → Finds seen axis.slots (IsFlat lo hi grid.h) (IsInColumn axis grid c) (IsInColumn axis grid c) First near → Finds seen axis.slots (IsFlat lo hi grid.h) (IsInColumn axis grid c) (IsInColumn axis grid c) Last far
+pub column_first : FlatBelow → (seen : Seen) (axis : Axis) (grid : Grid) (lo hi : ℤ) (c a b : ℕ) (near far : End) (r : Option Failure)
+    → IsColumn axis grid c a b
+    → Finds seen axis.slots (IsFlat lo hi grid.h) (IsInColumn axis grid c) (IsInColumn axis grid c) First near
+    → Finds seen axis.slots (IsFlat lo hi grid.h) (IsInColumn axis grid c) (IsInColumn axis grid c) Last far
     → IsEarlier (failure_of near) (failure_of far) r → IsFirstOf seen axis.slots (IsWantedIn seen axis grid lo hi c) r
 column_first below_flat seen axis grid lo hi c a b near far r column hn hf is =
     let A : Key → Type 0 = IsFound seen axis grid lo hi c (failure_of near) in
@@ -163,10 +172,13 @@ below_cases seen axis grid lo hi n k wanted = elim (cases_lt wanted.0 n) [
 ]
 
 -- one column more
-pub more_first : (seen : Seen) (axis : Axis) (grid : Grid) (lo hi : ℤ) (n : ℕ) (x y r : Option Failure) → IsFirstOf seen axis.slots (IsWantedBelow seen axis grid lo hi n) x
-    → IsFirstOf seen axis.slots (IsWantedIn seen axis grid lo hi n) y → IsEarlier x y r → IsFirstOf seen axis.slots (IsWantedBelow seen axis grid lo hi (n + 1)) r
+pub more_first : (seen : Seen) (axis : Axis) (grid : Grid) (lo hi : ℤ) (n : ℕ) (x y r : Option Failure)
+    → IsFirstOf seen axis.slots (IsWantedBelow seen axis grid lo hi n) x
+    → IsFirstOf seen axis.slots (IsWantedIn seen axis grid lo hi n) y → IsEarlier x y r
+    → IsFirstOf seen axis.slots (IsWantedBelow seen axis grid lo hi (n + 1)) r
 more_first seen axis grid lo hi n x y r hx hy is =
-    first_same seen axis.slots (Either (IsWantedBelow seen axis grid lo hi n) (IsWantedIn seen axis grid lo hi n)) (IsWantedBelow seen axis grid lo hi (n + 1)) r
+    first_same seen axis.slots (Either (IsWantedBelow seen axis grid lo hi n) (IsWantedIn seen axis grid lo hi n))
+    (IsWantedBelow seen axis grid lo hi (n + 1)) r
     (λ k either. elim either [ inl h ↦ (h.0, omega (arith, h.1), h.2) | inr h ↦ (n, omega arith, h) ])
     (λ k wanted fails. below_cases seen axis grid lo hi n k wanted)
     (merged seen axis.slots (IsWantedBelow seen axis grid lo hi n) (IsWantedIn seen axis grid lo hi n) x y r hx hy is)

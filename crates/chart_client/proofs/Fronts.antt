@@ -34,18 +34,23 @@ in_top n i few less = record {
 }
 
 -- over the whole tree a search among the slots from a on and below b is one among the column's slots
-found_in : (seen : Seen) (axis : Axis) (grid : Grid) (lo hi : ℤ) (c a b : ℕ) (side : Side) (e : End) → axis.slots ≤ 2 ^ 35 → HasSlots axis grid c a b
-    → Finds seen axis.slots (IsFlat lo hi grid.h) (IsBetween a b) (IsAmong (top_key axis.slots) a b) side e → Finds seen axis.slots (IsFlat lo hi grid.h) (IsInColumn axis grid c) (IsInColumn axis grid c) side e
+found_in : (seen : Seen) (axis : Axis) (grid : Grid) (lo hi : ℤ) (c a b : ℕ) (side : Side) (e : End) → axis.slots ≤ 2 ^ 35
+    → HasSlots axis grid c a b
+    → Finds seen axis.slots (IsFlat lo hi grid.h) (IsBetween a b) (IsAmong (top_key axis.slots) a b) side e
+    → Finds seen axis.slots (IsFlat lo hi grid.h) (IsInColumn axis grid c) (IsInColumn axis grid c) side e
 found_in seen axis grid lo hi c a b side e few slots found =
-    finds_same seen axis.slots (IsFlat lo hi grid.h) (IsBetween a b) (IsInColumn axis grid c) (IsAmong (top_key axis.slots) a b) (IsInColumn axis grid c)
+    finds_same seen axis.slots (IsFlat lo hi grid.h) (IsBetween a b) (IsInColumn axis grid c) (IsAmong (top_key axis.slots) a b)
+    (IsInColumn axis grid c)
     (λ i at. (slots i).1 at) (λ i here. (slots i).0 here)
     (λ i among. (slots i).1 (among.from, among.to))
     (λ i here. record { in_range = in_top axis.slots i few here.slot; from = ((slots i).0 here).0; to = ((slots i).0 here).1 })
     side e found
 
 -- both searches begin at the top
-pub column_searched : FlatBelow → (seen : Seen) (axis : Axis) (grid : Grid) (lo hi : ℤ) (c a b n : ℕ) (top : Key) (near far : End) (x y r : Option Failure) → axis.slots ≡ n → n ≤ 2 ^ 35 → top ≡ top_key n
-    → HasSlots axis grid c a b → Finds seen n (IsFlat lo hi grid.h) (IsBetween a b) (IsAmong top a b) First near → Finds seen n (IsFlat lo hi grid.h) (IsBetween a b) (IsAmong top a b) Last far
+pub column_searched : FlatBelow → (seen : Seen) (axis : Axis) (grid : Grid) (lo hi : ℤ) (c a b n : ℕ) (top : Key) (near far : End)
+    (x y r : Option Failure) → axis.slots ≡ n → n ≤ 2 ^ 35 → top ≡ top_key n
+    → HasSlots axis grid c a b → Finds seen n (IsFlat lo hi grid.h) (IsBetween a b) (IsAmong top a b) First near
+    → Finds seen n (IsFlat lo hi grid.h) (IsBetween a b) (IsAmong top a b) Last far
     → x ≡ failure_of near → y ≡ failure_of far → IsEarlier x y r → IsFirstOf seen n (IsWantedIn seen axis grid lo hi c) r
 column_searched below_flat seen axis grid lo hi c a b n top near far x y r is few at slots first last xs ys earlier =
     let P : Side → End → ℕ → Key → Type 0 = λ side e m k. Finds seen m (IsFlat lo hi grid.h) (IsBetween a b) (IsAmong k a b) side e in
@@ -55,19 +60,25 @@ column_searched below_flat seen axis grid lo hi c a b n top near far x y r is fe
     subst (λ k. P First near axis.slots k) here (subst (λ m. P First near m top) (sym is) first) in
     let far_found : Finds seen axis.slots (IsFlat lo hi grid.h) (IsBetween a b) (IsAmong (top_key axis.slots) a b) Last far =
     subst (λ k. P Last far axis.slots k) here (subst (λ m. P Last far m top) (sym is) last) in
-    let first_of : IsEarlier (failure_of near) (failure_of far) r = subst (λ o. IsEarlier o (failure_of far) r) xs (subst (λ o. IsEarlier x o r) ys earlier) in
+    let first_of : IsEarlier (failure_of near) (failure_of far) r = subst (λ o. IsEarlier o (failure_of far) r) xs
+    (subst (λ o. IsEarlier x o r) ys earlier) in
     subst (λ m. IsFirstOf seen m (IsWantedIn seen axis grid lo hi c) r) is
     (column_first below_flat seen axis grid lo hi c a b near far r (column_of axis grid c a b slots)
-    (found_in seen axis grid lo hi c a b First near low slots near_found) (found_in seen axis grid lo hi c a b Last far low slots far_found) first_of)
+    (found_in seen axis grid lo hi c a b First near low slots near_found)
+    (found_in seen axis grid lo hi c a b Last far low slots far_found) first_of)
 
 -- a column without slots
 pub column_empty : (seen : Seen) (axis : Axis) (grid : Grid) (lo hi : ℤ) (c a b n : ℕ) → axis.slots ≡ n → HasSlots axis grid c a b → b ≤ a
     → IsFirstOf seen n (IsWantedIn seen axis grid lo hi c) None
 column_empty seen axis grid lo hi c a b n is slots none =
-    subst (λ m. IsFirstOf seen m (IsWantedIn seen axis grid lo hi c) None) is (empty_first seen axis grid lo hi c a b (column_of axis grid c a b slots) none)
+    subst (λ m. IsFirstOf seen m (IsWantedIn seen axis grid lo hi c) None) is
+    (empty_first seen axis grid lo hi c a b (column_of axis grid c a b slots) none)
 
 -- one column more
-pub column_more : (seen : Seen) (axis : Axis) (grid : Grid) (lo hi : ℤ) (c n : ℕ) (x y r : Option Failure) → axis.slots ≡ n → IsFirstOf seen axis.slots (IsWantedBelow seen axis grid lo hi c) x
-    → IsFirstOf seen n (IsWantedIn seen axis grid lo hi c) y → IsEarlier x y r → IsFirstOf seen axis.slots (IsWantedBelow seen axis grid lo hi (c + 1)) r
+pub column_more : (seen : Seen) (axis : Axis) (grid : Grid) (lo hi : ℤ) (c n : ℕ) (x y r : Option Failure) → axis.slots ≡ n
+    → IsFirstOf seen axis.slots (IsWantedBelow seen axis grid lo hi c) x
+    → IsFirstOf seen n (IsWantedIn seen axis grid lo hi c) y → IsEarlier x y r
+    → IsFirstOf seen axis.slots (IsWantedBelow seen axis grid lo hi (c + 1)) r
 column_more seen axis grid lo hi c n x y r is before here earlier =
-    more_first seen axis grid lo hi c x y r before (subst (λ m. IsFirstOf seen m (IsWantedIn seen axis grid lo hi c) y) (sym is) here) earlier
+    more_first seen axis grid lo hi c x y r before (subst (λ m. IsFirstOf seen m (IsWantedIn seen axis grid lo hi c) y) (sym is) here)
+    earlier

@@ -1,5 +1,6 @@
 -- Where the holding of a session stands, and what a change of it leaves.
-use Rattle.std.proofs.Common.{ℕ, zero, suc, ◌≡◌, ◌<◌, ◌≤◌, Bool, true, false, cond, List, [], ◌∷◌, inl, inr, length, get_or, refl, sym, ◌∙◌, ap, ap₂, subst, arith}
+use Rattle.std.proofs.Common.{ℕ, zero, suc, ◌≡◌, ◌<◌, ◌≤◌, Bool, true, false, cond, List, [], ◌∷◌, inl, inr, length, get_or, refl, sym, ◌∙◌}
+use Rattle.std.proofs.Common.{ap, ap₂, subst, arith}
 use Rattle.std.proofs.Math.ListN.{set}
 use Rattle.std.proofs.lemmas.List.Elements.{All-weaker}
 use Rattle.std.proofs.lemmas.List.Kept.{AllPairs-cons}
@@ -44,10 +45,12 @@ held_at number (x ∷ hs) (suc place) h at =
     })
 
 -- no holding has this number
-pub not_held : (number : ℕ) (hs : List Holding) → ((i : ℕ) (d : Holding) → i < length hs → (get_or hs i d).number == number ≡ false) → holding_of number hs ≡ None
+pub not_held : (number : ℕ) (hs : List Holding) → ((i : ℕ) (d : Holding) → i < length hs → (get_or hs i d).number == number ≡ false)
+    → holding_of number hs ≡ None
 not_held number [] none = refl
 not_held number (x ∷ hs) none =
-    ap (λ (b : Bool). cond b (Some x) (holding_of number hs)) (none 0 x (omega arith)) ∙ not_held number hs (λ i d less. none (suc i) d (omega (arith, less)))
+    ap (λ (b : Bool). cond b (Some x) (holding_of number hs)) (none 0 x (omega arith))
+    ∙ not_held number hs (λ i d less. none (suc i) d (omega (arith, less)))
 
 -- the holding there, with another list
 pub replaced : (number : ℕ) (hs : List Holding) (place : ℕ) (h : Holding) (cache : Cache) → IsAt number hs place h
@@ -74,7 +77,8 @@ replaced number (x ∷ hs) (suc place) h cache at =
 abbrev of_number : ℕ → Holding → Bool
 of_number number h = h.number == number
 
-pub at_place : (number : ℕ) (hs : List Holding) (place : ℕ) (h : Holding) → position (λ x. x.number == number) hs ≡ Some place → h ≡ get_or hs place h → IsAt number hs place h
+pub at_place : (number : ℕ) (hs : List Holding) (place : ℕ) (h : Holding) → position (λ x. x.number == number) hs ≡ Some place
+    → h ≡ get_or hs place h → IsAt number hs place h
 at_place number hs place h is there = record {
   inside = (position-Some (of_number number) hs place h is).0;
   there = there;
@@ -84,14 +88,18 @@ at_place number hs place h is there = record {
 }
 
 -- the same, where the list is told in two ways
-pub at_held : (number : ℕ) (items hs : List Holding) (place : ℕ) (h : Holding) → items ≡ hs → position (λ x. x.number == number) hs ≡ Some place → h ≡ get_or items place h
+pub at_held : (number : ℕ) (items hs : List Holding) (place : ℕ) (h : Holding) → items ≡ hs
+    → position (λ x. x.number == number) hs ≡ Some place → h ≡ get_or items place h
     → IsAt number hs place h
-at_held number items hs place h same is there = at_place number hs place h is (subst (λ (l : List Holding). h ≡ get_or l place h) same there)
+at_held number items hs place h same is there = at_place number hs place h is
+    (subst (λ (l : List Holding). h ≡ get_or l place h) same there)
 
-pub same_held : (items : List Holding) (place : ℕ) (x y : Holding) → place < length items → x ≡ get_or items place x → y ≡ get_or items place y → x ≡ y
+pub same_held : (items : List Holding) (place : ℕ) (x y : Holding) → place < length items → x ≡ get_or items place x
+    → y ≡ get_or items place y → x ≡ y
 same_held items place x y inside there too = there ∙ get_or_default items place x y inside ∙ sym too
 
-pub inside_items : (number : ℕ) (items hs : List Holding) (place : ℕ) (h : Holding) → items ≡ hs → IsAt number hs place h → place < length items
+pub inside_items : (number : ℕ) (items hs : List Holding) (place : ℕ) (h : Holding) → items ≡ hs → IsAt number hs place h
+    → place < length items
 inside_items number items hs place h same at = subst (λ (l : List Holding). place < length l) (sym same) at.inside
 
 none_some : {X : Type 0} (x : X) → ◌≡◌ {A = Option X} (Some x) None → ⊥
@@ -109,12 +117,14 @@ not_at number hs is =
 
 -- there is none
 pub at_none : (number : ℕ) (hs : List Holding) → position (λ x. x.number == number) hs ≡ None → holding_of number hs ≡ None
-at_none number hs is = not_held number hs (λ i d less. fails_before_first (of_number number) hs i d (omega (arith, less, not_at number hs is)))
+at_none number hs is = not_held number hs (λ i d less. fails_before_first (of_number number) hs i d
+    (omega (arith, less, not_at number hs is)))
 
 abbrev no_holding : Holding
 no_holding = record { number = 0; cache = record { pairs = []; capacity = 0 } }
 
-open_by : (number : ℕ) (hs : List Holding) (o : Option ℕ) → position (λ x. x.number == number) hs ≡ o → is_some o ≡ is_some (holding_of number hs)
+open_by : (number : ℕ) (hs : List Holding) (o : Option ℕ) → position (λ x. x.number == number) hs ≡ o
+    → is_some o ≡ is_some (holding_of number hs)
 open_by number hs None is = sym (ap (λ (h : Option Holding). is_some h) (at_none number hs is))
 open_by number hs (Some place) is =
     let h : Holding = get_or hs place no_holding in
@@ -123,11 +133,13 @@ open_by number hs (Some place) is =
     sym (ap (λ (x : Option Holding). is_some x) (held_at number hs place h (at_place number hs place h is there)))
 
 -- so a session is open where its holding has a place
-pub open_is : (number : ℕ) (hs : List Holding) (o : Option ℕ) → o ≡ position (λ x. x.number == number) hs → is_some o ≡ is_some (holding_of number hs)
+pub open_is : (number : ℕ) (hs : List Holding) (o : Option ℕ) → o ≡ position (λ x. x.number == number) hs
+    → is_some o ≡ is_some (holding_of number hs)
 open_is number hs o is = open_by number hs o (sym is)
 
 -- a list that is renewed
-pub same_cache : (new : Cache) (pairs : List (SeriesKey × Coef)) (capacity : ℕ) → new.pairs ≡ pairs → new.capacity ≡ capacity → new ≡ record { pairs = pairs; capacity = capacity }
+pub same_cache : (new : Cache) (pairs : List (SeriesKey × Coef)) (capacity : ℕ) → new.pairs ≡ pairs → new.capacity ≡ capacity
+    → new ≡ record { pairs = pairs; capacity = capacity }
 same_cache new pairs capacity ps cap =
     ap₂ (λ (x : List (SeriesKey × Coef)) (n : ℕ). let c : Cache = record { pairs = x; capacity = n } in c) ps cap
 

@@ -27,16 +27,19 @@ use Rattle.chart_client.proofs.Unknown.{shown, not_clear}
 -- ---- no search below
 
 -- a key that has no span has clear slots
-pub none_found : (seen : Seen) (slots : ℕ) (Flat : Span → Type 0) (side : Side) (a b : ℕ) (k : Key) → k.level ≤ height slots → shown seen slots k ≡ Some None
+pub none_found : (seen : Seen) (slots : ℕ) (Flat : Span → Type 0) (side : Side) (a b : ℕ) (k : Key) → k.level ≤ height slots
+    → shown seen slots k ≡ Some None
     → Finds seen slots Flat (IsBetween a b) (IsAmong k a b) side Nowhere
 none_found seen slots Flat side a b k high none i among =
-    known_clear seen.root seen.told (height slots) k (slot_key i) high (shared-above k (slot_key i) i (omega arith) among.in_range (slot_key-in_range i)) none
+    known_clear seen.root seen.told (height slots) k (slot_key i) high
+    (shared-above k (slot_key i) i (omega arith) among.in_range (slot_key-in_range i)) none
 
 some_width : (q p : ℕ) → 0 < p → q * p < (q + 1) * p
 some_width q p some = let e : (q + 1) * p ≡ q * p + p = omega arith in omega (arith, e, some)
 
 -- the key's coefficient can't be used: none of its slots is known to hold nothing
-pub stuck_found : (seen : Seen) (slots : ℕ) (Flat : Span → Type 0) (side : Side) (a b : ℕ) (f : Failure) → IsFailure seen slots f → (IsSettled seen slots Flat (IsBetween a b) f.key → ⊥) → a < b
+pub stuck_found : (seen : Seen) (slots : ℕ) (Flat : Span → Type 0) (side : Side) (a b : ℕ) (f : Failure) → IsFailure seen slots f
+    → (IsSettled seen slots Flat (IsBetween a b) f.key → ⊥) → a < b
     → a < end_slot f.key → first_slot f.key < b → Finds seen slots Flat (IsBetween a b) (IsAmong f.key a b) side (Stuck f)
 stuck_found seen slots Flat First a b f h unsettled some low high =
     let width : first_slot f.key < end_slot f.key = some_width f.key.index (2 ^ f.key.level) (pow_pos f.key.level) in
@@ -70,7 +73,8 @@ stuck_found seen slots Flat Last a b f h unsettled some low high =
 -- ---- a key with a value
 
 -- a slot that has a span
-pub slot_found : (seen : Seen) (slots : ℕ) (Flat : Span → Type 0) (side : Side) (a b : ℕ) (k : Key) (s : Span) → k.level ≡ 0 → shown seen slots k ≡ Some (Some s)
+pub slot_found : (seen : Seen) (slots : ℕ) (Flat : Span → Type 0) (side : Side) (a b : ℕ) (k : Key) (s : Span) → k.level ≡ 0
+    → shown seen slots k ≡ Some (Some s)
     → a < end_slot k → first_slot k < b → Finds seen slots Flat (IsBetween a b) (IsAmong k a b) side Value
 slot_found seen slots Flat side a b k s none known_so low high =
     let one : 2 ^ k.level ≡ 1 = ap (λ n. 2 ^ n) none in
@@ -145,7 +149,8 @@ settled_found law seen slots Flat First a b k h =
             },
             inr (k, r, h),
           ))
-      | inr none ↦ absurd (law seen.root seen.told (height slots) k h.span h.high h.known_so (λ i r. clear_by seen slots k i r (none i r.to)))
+      | inr none ↦ absurd (law seen.root seen.told (height slots) k h.span h.high h.known_so
+          (λ i r. clear_by seen slots k i r (none i r.to)))
     ]
 settled_found law seen slots Flat Last a b k h =
     elim (greatest (IsOpenIn seen slots k) (open_cases seen slots k) (end_slot k)) [
@@ -160,11 +165,13 @@ settled_found law seen slots Flat Last a b k h =
             },
             inr (k, r, h),
           ))
-      | inr none ↦ absurd (law seen.root seen.told (height slots) k h.span h.high h.known_so (λ i r. clear_by seen slots k i r (none i r.to)))
+      | inr none ↦ absurd (law seen.root seen.told (height slots) k h.span h.high h.known_so
+          (λ i r. clear_by seen slots k i r (none i r.to)))
     ]
 
 -- a key is settled where it lies among the slots from a on and below b, and is flat
-pub settled_by : (seen : Seen) (slots : ℕ) (Flat : Span → Type 0) (a b : ℕ) (k : Key) (s : Span) → k.level ≤ height slots → shown seen slots k ≡ Some (Some s)
+pub settled_by : (seen : Seen) (slots : ℕ) (Flat : Span → Type 0) (a b : ℕ) (k : Key) (s : Span) → k.level ≤ height slots
+    → shown seen slots k ≡ Some (Some s)
     → (a ≤ first_slot k) × (end_slot k ≤ b) × Flat s → IsSettled seen slots Flat (IsBetween a b) k
 settled_by seen slots Flat a b k s high known_so h = record {
   high = high;
@@ -196,7 +203,8 @@ pub record AreHalves (side : Side) (k near far : Key) : Type 0 where
   pub far_in : (i : ℕ) → IsInRange far i → IsInRange k i
   pub order : (i j : ℕ) → IsInRange near i → IsInRange far j → IsNearer side i j
 
-pub halves : (side : Side) (k : Key) → 1 ≤ k.level → AreHalves side k (near_of side (left_of k) (right_of k)) (far_of side (left_of k) (right_of k))
+pub halves : (side : Side) (k : Key) → 1 ≤ k.level → AreHalves side k (near_of side (left_of k) (right_of k))
+    (far_of side (left_of k) (right_of k))
 halves First k low =
     let from : first_slot (left_of k) ≡ first_slot k = left_first k low in
     let to : end_slot (right_of k) ≡ end_slot k = right_end k low in
@@ -254,21 +262,33 @@ far_end seen slots Flat side a b k near far i h none end = record {
 }
 
 -- the nearer half has no clear end: the search ends there
-pub near_found : (seen : Seen) (slots : ℕ) (Flat : Span → Type 0) (side : Side) (a b : ℕ) (k near far : Key) (e : End) → AreHalves side k near far
-    → Finds seen slots Flat (IsBetween a b) (IsAmong near a b) side e → (e ≡ Nowhere → ⊥) → Finds seen slots Flat (IsBetween a b) (IsAmong k a b) side e
+pub near_found : (seen : Seen) (slots : ℕ) (Flat : Span → Type 0) (side : Side) (a b : ℕ) (k near far : Key) (e : End)
+    → AreHalves side k near far
+    → Finds seen slots Flat (IsBetween a b) (IsAmong near a b) side e → (e ≡ Nowhere → ⊥)
+    → Finds seen slots Flat (IsBetween a b) (IsAmong k a b) side e
 near_found seen slots Flat side a b k near far Nowhere h found some = absurd (some refl)
-near_found seen slots Flat side a b k near far Value h found some = (found.0, near_end seen slots side a b k near far found.0 h found.1, found.2)
+near_found seen slots Flat side a b k near far Value h found some = (
+  found.0,
+  near_end seen slots side a b k near far found.0 h found.1,
+  found.2,
+)
 near_found seen slots Flat side a b k near far (Stuck f) h found some =
     (found.0, near_end seen slots side a b k near far found.0 h found.1, found.2, found.3, found.4)
 
 -- all slots of the nearer half are clear: the search goes on in the other one
-pub far_found : (seen : Seen) (slots : ℕ) (Flat : Span → Type 0) (side : Side) (a b : ℕ) (k near far : Key) (e : End) → AreHalves side k near far
-    → Finds seen slots Flat (IsBetween a b) (IsAmong near a b) side Nowhere → Finds seen slots Flat (IsBetween a b) (IsAmong far a b) side e → Finds seen slots Flat (IsBetween a b) (IsAmong k a b) side e
+pub far_found : (seen : Seen) (slots : ℕ) (Flat : Span → Type 0) (side : Side) (a b : ℕ) (k near far : Key) (e : End)
+    → AreHalves side k near far
+    → Finds seen slots Flat (IsBetween a b) (IsAmong near a b) side Nowhere → Finds seen slots Flat (IsBetween a b) (IsAmong far a b) side e
+    → Finds seen slots Flat (IsBetween a b) (IsAmong k a b) side e
 far_found seen slots Flat side a b k near far Nowhere h none found = λ i among. elim (h.either i among.in_range) [
   | inl r ↦ none i (record { in_range = r; from = among.from; to = among.to })
   | inr r ↦ found i (record { in_range = r; from = among.from; to = among.to })
 ]
-far_found seen slots Flat side a b k near far Value h none found = (found.0, far_end seen slots Flat side a b k near far found.0 h none found.1, found.2)
+far_found seen slots Flat side a b k near far Value h none found = (
+  found.0,
+  far_end seen slots Flat side a b k near far found.0 h none found.1,
+  found.2,
+)
 far_found seen slots Flat side a b k near far (Stuck f) h none found =
     (found.0, far_end seen slots Flat side a b k near far found.0 h none found.1, found.2, found.3, found.4)
 
@@ -282,7 +302,8 @@ pub record AreWays (view : NodesView) (side : Side) (k : Key) (x y : Half) : Typ
   pub near_lower : x.key.level < k.level
   pub far_lower : y.key.level < k.level
 
-ways_of : (view : NodesView) (side : Side) (k : Key) (left right : Option Span) → 1 ≤ k.level → IsReached view (left_of k) left → IsReached view (right_of k) right
+ways_of : (view : NodesView) (side : Side) (k : Key) (left right : Option Span) → 1 ≤ k.level → IsReached view (left_of k) left
+    → IsReached view (right_of k) right
     → AreWays view side k (near_of side (record { key = left_of k; span = left }) (record { key = right_of k; span = right }))
     (far_of side (record { key = left_of k; span = left }) (record { key = right_of k; span = right }))
 ways_of view First k left right low in_left in_right =

@@ -36,10 +36,12 @@ stays m h hs is = ap (λ (b : Bool). cond (not b) (h ∷ without m hs) (without 
 abbrev listed : ℕ → Cache → Holding
 listed m cache = record { number = m; cache = cache }
 
-replaced : (m : ℕ) (cache : Cache) (h : Holding) (hs : List Holding) → h.number == m ≡ true → with_cache m cache (h ∷ hs) ≡ listed m cache ∷ hs
+replaced : (m : ℕ) (cache : Cache) (h : Holding) (hs : List Holding) → h.number == m ≡ true
+    → with_cache m cache (h ∷ hs) ≡ listed m cache ∷ hs
 replaced m cache h hs is = ap (λ (b : Bool). cond b (listed m cache ∷ hs) (h ∷ with_cache m cache hs)) is
 
-passed : (m : ℕ) (cache : Cache) (h : Holding) (hs : List Holding) → h.number == m ≡ false → with_cache m cache (h ∷ hs) ≡ h ∷ with_cache m cache hs
+passed : (m : ℕ) (cache : Cache) (h : Holding) (hs : List Holding) → h.number == m ≡ false
+    → with_cache m cache (h ∷ hs) ≡ h ∷ with_cache m cache hs
 passed m cache h hs is = ap (λ (b : Bool). cond b (listed m cache ∷ hs) (h ∷ with_cache m cache hs)) is
 
 -- a holding of m isn't one of n
@@ -52,7 +54,8 @@ other_without : (n m : ℕ) (hs : List Holding) → n ≢ m → holding_of n (wi
 other_without n m [] apart = refl
 other_without n m (h ∷ hs) apart =
     elim (h.number == m) as (λ (b : Bool). h.number == m ≡ b → holding_of n (without m (h ∷ hs)) ≡ holding_of n (h ∷ hs)) [
-      | true ↦ λ is. ap (λ (l : List Holding). holding_of n l) (dropped m h hs is) ∙ other_without n m hs apart ∙ sym (found_later n h hs (not_of n m h apart is))
+      | true ↦ λ is. ap (λ (l : List Holding). holding_of n l) (dropped m h hs is) ∙ other_without n m hs apart
+          ∙ sym (found_later n h hs (not_of n m h apart is))
       | false ↦ λ is. ap (λ (l : List Holding). holding_of n l) (stays m h hs is)
           ∙ ap (λ (o : Option Holding). cond (h.number == n) (Some h) o) (other_without n m hs apart)
     ] refl
@@ -74,7 +77,8 @@ other_behind n x (h ∷ hs) other = ap (λ (o : Option Holding). cond (h.number 
 some_none : {X : Type 0} (x : X) → ◌≡◌ {A = Option X} (Some x) None → ⊥
 some_none x e = cc
 
-own_behind : (n : ℕ) (x : Holding) (hs : List Holding) → x.number == n ≡ true → holding_of n hs ≡ None → holding_of n (hs ++ x ∷ []) ≡ Some x
+own_behind : (n : ℕ) (x : Holding) (hs : List Holding) → x.number == n ≡ true → holding_of n hs ≡ None
+    → holding_of n (hs ++ x ∷ []) ≡ Some x
 own_behind n x [] own none = found_first n x [] own
 own_behind n x (h ∷ hs) own none =
     elim (h.number == n) as (λ (b : Bool). h.number == n ≡ b → holding_of n (h ∷ (hs ++ x ∷ [])) ≡ Some x) [
@@ -89,12 +93,14 @@ other_cache n m cache [] apart = refl
 other_cache n m cache (h ∷ hs) apart =
     elim (h.number == m) as (λ (b : Bool). h.number == m ≡ b → holding_of n (with_cache m cache (h ∷ hs)) ≡ holding_of n (h ∷ hs)) [
       | true ↦ λ is. ap (λ (l : List Holding). holding_of n l) (replaced m cache h hs is)
-          ∙ found_later n (listed m cache) hs (not_of n m (listed m cache) apart (same_true m)) ∙ sym (found_later n h hs (not_of n m h apart is))
+          ∙ found_later n (listed m cache) hs (not_of n m (listed m cache) apart (same_true m))
+          ∙ sym (found_later n h hs (not_of n m h apart is))
       | false ↦ λ is. ap (λ (l : List Holding). holding_of n l) (passed m cache h hs is)
           ∙ ap (λ (o : Option Holding). cond (h.number == n) (Some h) o) (other_cache n m cache hs apart)
     ] refl
 
-own_cache : (m : ℕ) (cache : Cache) (hs : List Holding) (x : Holding) → holding_of m hs ≡ Some x → holding_of m (with_cache m cache hs) ≡ Some (listed m cache)
+own_cache : (m : ℕ) (cache : Cache) (hs : List Holding) (x : Holding) → holding_of m hs ≡ Some x
+    → holding_of m (with_cache m cache hs) ≡ Some (listed m cache)
 own_cache m cache [] x held = absurd (some_none x (sym held))
 own_cache m cache (h ∷ hs) x held =
     elim (h.number == m) as (λ (b : Bool). h.number == m ≡ b → holding_of m (with_cache m cache (h ∷ hs)) ≡ Some (listed m cache)) [
@@ -127,7 +133,8 @@ apart_of : (n m : ℕ) → (Some m ≡ Some n → ⊥) → n ≢ m
 apart_of n m apart = λ e. apart (ap (λ (k : ℕ). Some k) (sym e))
 
 -- a frame leaves what is held of the sessions that it doesn't name
-pub others_stay : (frame : Frame) (drawing : Option Canvas) (old new : List Holding) (n : ℕ) → Accepts frame drawing old new → named_in frame ≢ Some n
+pub others_stay : (frame : Frame) (drawing : Option Canvas) (old new : List Holding) (n : ℕ) → Accepts frame drawing old new
+    → named_in frame ≢ Some n
     → holding_of n new ≡ holding_of n old
 others_stay (Done slots) drawing old new n accepts apart = ap (λ (l : List Holding). holding_of n l) accepts.1
 others_stay (Refused number a b) drawing old new n accepts apart = ap (λ (l : List Holding). holding_of n l) accepts.1

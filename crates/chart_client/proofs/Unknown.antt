@@ -20,7 +20,8 @@ use Rattle.chart_client.specs.Searching.{IsFailing, IsClearAt}
 abbrev pub shown : Seen → ℕ → Key → Option (Option Span)
 shown seen slots k = known seen.root seen.told (height slots) k
 
-below_fails : (seen : Seen) (slots : ℕ) (f : Key) → IsFailing seen slots f → (index : ℕ) → known_below index (shown seen slots f) (seen.told f) ≡ None
+below_fails : (seen : Seen) (slots : ℕ) (f : Key) → IsFailing seen slots f → (index : ℕ)
+    → known_below index (shown seen slots f) (seen.told f) ≡ None
 below_fails seen slots f h index = elim h.fails [
   | inl missing ↦ ap₂ (λ (a : Option (Option Span)) (b : Option Coef). known_below index a b) h.known_so missing
   | inr m ↦ ap₂ (λ (a : Option (Option Span)) (b : Option Coef). known_below index a b) m.known_so m.told
@@ -45,15 +46,18 @@ unknown_from seen slots f h (suc gap) k levels place =
     ∙ ap (λ (p : Option (Option Span)). known_below k.index p (seen.told (parent_of k))) rest
 
 -- nothing is known of a key below one that fails
-pub unknown_below : (seen : Seen) (slots : ℕ) (f k : Key) → IsFailing seen slots f → k.level < f.level → IsAtOrAbove f k → shown seen slots k ≡ None
+pub unknown_below : (seen : Seen) (slots : ℕ) (f k : Key) → IsFailing seen slots f → k.level < f.level → IsAtOrAbove f k
+    → shown seen slots k ≡ None
 unknown_below seen slots f k h lower above =
     let gap : f.level - k.level ≡ suc (f.level - k.level - 1) = omega (arith, lower) in
     unknown_from seen slots f h (f.level - k.level - 1) k (omega (arith, lower)) (ap (λ n. k.index / 2 ^ n) (sym gap) ∙ above.holds)
 
 -- nor of a slot in its range
-pub unknown_slot : (seen : Seen) (slots : ℕ) (f : Key) (i : ℕ) → IsFailing seen slots f → IsInRange f i → shown seen slots (slot_key i) ≡ None
+pub unknown_slot : (seen : Seen) (slots : ℕ) (f : Key) (i : ℕ) → IsFailing seen slots f → IsInRange f i
+    → shown seen slots (slot_key i) ≡ None
 unknown_slot seen slots f i h r =
-    unknown_below seen slots f (slot_key i) h (omega (arith, h.node.low)) (shared-above f (slot_key i) i (omega arith) r (slot_key-in_range i))
+    unknown_below seen slots f (slot_key i) h (omega (arith, h.node.low))
+    (shared-above f (slot_key i) i (omega arith) r (slot_key-in_range i))
 
 pub not_clear : (seen : Seen) (slots : ℕ) (f : Key) (i : ℕ) → IsFailing seen slots f → IsInRange f i → IsClearAt seen slots i → ⊥
 not_clear seen slots f i h r clear =
@@ -62,15 +66,18 @@ not_clear seen slots f i h r clear =
 unseen : (s : Span) → ◌≡◌ {A = Option (Option Span)} None (Some (Some s)) → ⊥
 unseen s e = cc
 
-pub not_known : (seen : Seen) (slots : ℕ) (f : Key) (i : ℕ) (s : Span) → IsFailing seen slots f → IsInRange f i → shown seen slots (slot_key i) ≡ Some (Some s) → ⊥
+pub not_known : (seen : Seen) (slots : ℕ) (f : Key) (i : ℕ) (s : Span) → IsFailing seen slots f → IsInRange f i
+    → shown seen slots (slot_key i) ≡ Some (Some s) → ⊥
 not_known seen slots f i s h r is = unseen s (sym (unknown_slot seen slots f i h r) ∙ is)
 
-not_lower : (seen : Seen) (slots : ℕ) (f k : Key) (i : ℕ) → IsFailing seen slots f → IsFailing seen slots k → IsInRange f i → IsInRange k i → k.level < f.level → ⊥
+not_lower : (seen : Seen) (slots : ℕ) (f k : Key) (i : ℕ) → IsFailing seen slots f → IsFailing seen slots k → IsInRange f i → IsInRange k i
+    → k.level < f.level → ⊥
 not_lower seen slots f k i hf hk rf rk lower =
     unseen hk.span (sym (unknown_below seen slots f k hf lower (shared-above f k i (omega (arith, lower)) rf rk)) ∙ hk.known_so)
 
 -- two keys that fail and share a slot are the same
-pub same_failing : (seen : Seen) (slots : ℕ) (f k : Key) (i : ℕ) → IsFailing seen slots f → IsFailing seen slots k → IsInRange f i → IsInRange k i → f ≡ k
+pub same_failing : (seen : Seen) (slots : ℕ) (f k : Key) (i : ℕ) → IsFailing seen slots f → IsFailing seen slots k → IsInRange f i
+    → IsInRange k i → f ≡ k
 same_failing seen slots f k i hf hk rf rk =
     elim (cases_lt k.level f.level) [
       | inl lower ↦ absurd (not_lower seen slots f k i hf hk rf rk lower)

@@ -35,12 +35,14 @@ use Rattle.chart_client.proofs.Places.{IsAt, held_at, replaced}
 use Rattle.chart_client.proofs.Drawn.{chart_drawn}
 
 -- what was found of a view, and the picture of its rows
-pub record IsDrawn (view : ViewFrame) (cache : Cache) (grid : Grid) (es : List (Key × Coef)) (rows : List Row) (drawing : Canvas) : Type 0 where
+pub record IsDrawn (view : ViewFrame) (cache : Cache) (grid : Grid) (es : List (Key × Coef)) (rows : List Row)
+    (drawing : Canvas) : Type 0 where
   pub fits : FitsView view
   pub grid_is : IsGridOf view grid
   pub usable : NoneFails (seen_by view cache) (axis_of view) grid view.lo view.hi
   pub wanted : IsListOf (IsWanted (seen_by view cache) (axis_of view) grid view.lo view.hi) (told_by view cache) es
-  pub shown : (list : List (Option ℤ)) → Agrees view cache grid list → AreDrawnAs grid view.lo view.hi (points_of (axis_of view) grid list) rows
+  pub shown : (list : List (Option ℤ)) → Agrees view cache grid list
+      → AreDrawnAs grid view.lo view.hi (points_of (axis_of view) grid list) rows
   pub wide : drawing.w ≡ view.w
   pub high : drawing.h ≡ view.h
   pub draws : (g : Grid) (points : List (ℤ × ℤ)) (of : List Row) → HasCanvas g view.w view.h → AreInOrder g points → AreRowsOf g points of
@@ -53,7 +55,8 @@ pub record PointsAreSamples : Type 0 where
       → pixels grid range.lo range.hi (points_of axis grid list) ≡ places grid range (kept grid axis list)
 
 -- the view is accepted
-pub view_accepted : (view : ViewFrame) (old new : List Holding) (place : ℕ) (h : Holding) (grid : Grid) (es : List (Key × Coef)) (rows : List Row) (drawing : Canvas) (cache : Cache)
+pub view_accepted : (view : ViewFrame) (old new : List Holding) (place : ℕ) (h : Holding) (grid : Grid) (es : List (Key × Coef))
+    (rows : List Row) (drawing : Canvas) (cache : Cache)
     → PointsAreSamples → IsAt view.session old place h → IsDrawn view h.cache grid es rows drawing → cache ≡ viewed view h.cache es
     → new ≡ set old place (record { number = h.number; cache = cache }) → Accepts (View view) (Some drawing) old new
 view_accepted view old new place h grid es rows drawing cache law at drawn renewed is =
@@ -89,8 +92,26 @@ err_as (Err x) Q e is holds = subst Q (sym is) holds
 pub view_rejected : (view : ViewFrame) (old : List Holding) (place : ℕ) (h : Holding) (grid : Grid) (e : ClientError)
     → IsAt view.session old place h → IsGridOf view grid → FindsNone view h.cache grid e → Rejects (View view) e old
 view_rejected view old place h grid (client.Missing key) at is none =
-    record { view = view; is = refl; holding = h; open_is = held_at view.session old place h at; grid = grid; grid_is = is; first = none.0; how = none.1 }
+    record {
+      view = view;
+      is = refl;
+      holding = h;
+      open_is = held_at view.session old place h at;
+      grid = grid;
+      grid_is = is;
+      first = none.0;
+      how = none.1;
+    }
 view_rejected view old place h grid (client.BadCoefficient key) at is none =
-    record { view = view; is = refl; holding = h; open_is = held_at view.session old place h at; grid = grid; grid_is = is; first = none.0; how = none.1 }
+    record {
+      view = view;
+      is = refl;
+      holding = h;
+      open_is = held_at view.session old place h at;
+      grid = grid;
+      grid_is = is;
+      first = none.0;
+      how = none.1;
+    }
 view_rejected view old place h grid (client.UnknownSession number) at is none = absurd none
 view_rejected view old place h grid client.NoMemory at is none = tt

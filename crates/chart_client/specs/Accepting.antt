@@ -78,7 +78,8 @@ Accepts (Report report) drawing old new = (drawing ≡ None) × (new ≡ old)
 abbrev pub AcceptsAll : List Frame → List Canvas → List Holding → List Holding → Type 0
 AcceptsAll [] drawings old new = (drawings ≡ []) × (new ≡ old)
 AcceptsAll (frame ∷ frames) drawings old new =
-    (drawing : Option Canvas) × (between : List Holding) × (rest : List Canvas) × Accepts frame drawing old between × AcceptsAll frames rest between new
+    (drawing : Option Canvas) × (between : List Holding) × (rest : List Canvas) × Accepts frame drawing old between
+    × AcceptsAll frames rest between new
     × (drawings ≡ cons_option drawing rest)
 
 -- the session that a frame needs to be open

@@ -24,4 +24,5 @@ pub record Agrees (view : ViewFrame) (cache : Cache) (grid : Grid) (list : List 
   pub values : AreSlots list
   pub slots : view.slots ≡ length list
   pub root : root_of view ≡ span list (top_key (length list))
-  pub told : (k : Key) (c : Coef) → IsWanted (seen_by view cache) (axis_of view) grid view.lo view.hi k → told_by view cache k ≡ Some c → c ≡ coef list k
+  pub told : (k : Key) (c : Coef) → IsWanted (seen_by view cache) (axis_of view) grid view.lo view.hi k → told_by view cache k ≡ Some c
+      → c ≡ coef list k

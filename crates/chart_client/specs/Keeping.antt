@@ -30,7 +30,8 @@ same_told old new s =
     ∙ ap (λ (x : Cache). held_told old.series old.sent.now x) s.cache
 
 pub same_seen : (old new : HeldNodes) → Stays old new → seen_of new ≡ seen_of old
-same_seen old new s = ap₂ (λ (r : Option Span) (t : Key → Option Coef). let seen : Seen = record { root = r; told = t } in seen) s.root (same_told old new s)
+same_seen old new s = ap₂ (λ (r : Option Span) (t : Key → Option Coef). let seen : Seen = record { root = r; told = t } in
+    seen) s.root (same_told old new s)
 
 same_error : (old new : HeldNodes) → Stays old new → (e : NodeError)
     → IsHeldError (seen_of new) new.slots e ≡ IsHeldError (seen_of old) old.slots e

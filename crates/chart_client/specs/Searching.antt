@@ -87,7 +87,8 @@ pub record IsWantedIn (seen : Seen) (axis : Axis) (grid : Grid) (lo hi : ℤ) (c
   pub node : IsNode (height axis.slots) k
   pub span : Span
   pub known_so : known seen.root seen.told (height axis.slots) k ≡ Some (Some span)
-  pub reason : IsCut axis grid c k ⊎ (IsWithin axis grid c k × (IsFlat lo hi grid.h span → ⊥) × (IsClearBefore seen axis grid c k ⊎ IsClearBehind seen axis grid c k))
+  pub reason : IsCut axis grid c k ⊎ (IsWithin axis grid c k × (IsFlat lo hi grid.h span → ⊥)
+      × (IsClearBefore seen axis grid c k ⊎ IsClearBehind seen axis grid c k))
 
 -- a key that it wants for one of the first n columns
 abbrev pub IsWantedBelow : Seen → Axis → Grid → ℤ → ℤ → ℕ → Key → Type 0

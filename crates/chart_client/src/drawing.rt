@@ -83,7 +83,8 @@ pub(crate) fn picture_of(
     requires drawable { All (IsDrawable w) rows.now }
     ensures wide { IfOk result (λ drawing. drawing.w ≡ w) }
     ensures tall { IfOk result (λ drawing. drawing.h ≡ h) }
-    ensures draws { (grid : Grid) (points : List (ℤ × ℤ)) (of : List Row) → HasCanvas grid w h → AreInOrder grid points → AreRowsOf grid points of →
+    ensures draws { (grid : Grid) (points : List (ℤ × ℤ)) (of : List Row) → HasCanvas grid w h → AreInOrder grid points
+        → AreRowsOf grid points of →
         HaveSameHeights lo hi h rows.now of → IfOk result (DrawsPoints grid lo hi points) }
     ensures failed { IfErr result (λ e. e ≡ client.NoMemory) }
 {

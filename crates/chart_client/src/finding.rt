@@ -33,7 +33,8 @@ pub(crate) fn find(
     grid: Grid,
 ) -> Result<Findings, ClientError>
     requires { FitsView view.now }
-    ensures wanted { IfOk result (λ f. IsListOf (IsWanted (seen_by view.now cache.now) (axis_of view.now) grid view.now.lo view.now.hi) (told_by view.now cache.now) f.needed) }
+    ensures wanted { IfOk result (λ f. IsListOf (IsWanted (seen_by view.now cache.now) (axis_of view.now) grid view.now.lo view.now.hi)
+        (told_by view.now cache.now) f.needed) }
     ensures usable { IfOk result (λ _. NoneFails (seen_by view.now cache.now) (axis_of view.now) grid view.now.lo view.now.hi) }
     ensures rows { (list : List (Option ℤ)) → Agrees view.now cache.now grid list →
         IfOk result (λ f. AreDrawnAs grid view.now.lo view.now.hi (points_of (axis_of view.now) grid list) f.rows) }

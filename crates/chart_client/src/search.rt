@@ -65,7 +65,8 @@ pub(crate) fn search(nodes: &HeldNodes, side: Side, half: Half, scope: Scope) ->
     requires reached { IsReached (told_view nodes.now) half.key half.span }
     requires some { scope.from < scope.to }
     requires order { scope.range.lo ≤ℤ scope.range.hi }
-    ensures { Finds (seen_of nodes.now) nodes.now.slots (IsFlat scope.range.lo scope.range.hi scope.grid.h) (IsBetween scope.from scope.to) (IsAmong half.key scope.from scope.to) side result }
+    ensures { Finds (seen_of nodes.now) nodes.now.slots (IsFlat scope.range.lo scope.range.hi scope.grid.h) (IsBetween scope.from scope.to)
+        (IsAmong half.key scope.from scope.to) side result }
 {
     let key = half.key;
     let Some(span) = half.span else {
@@ -96,7 +97,8 @@ pub(crate) fn search(nodes: &HeldNodes, side: Side, half: Half, scope: Scope) ->
 fn is_settled(key: Key, span: Span, scope: Scope) -> bool
     requires fits { end_slot key < 2 ^ 63 }
     requires order { scope.range.lo ≤ℤ scope.range.hi }
-    ensures { IsTrue result ↔ ((scope.from ≤ first_slot key) × (end_slot key ≤ scope.to) × IsFlat scope.range.lo scope.range.hi scope.grid.h span) }
+    ensures { IsTrue result ↔ ((scope.from ≤ first_slot key) × (end_slot key ≤ scope.to)
+        × IsFlat scope.range.lo scope.range.hi scope.grid.h span) }
 {
     if key.first() < scope.from || scope.to < key.end() {
         return false;

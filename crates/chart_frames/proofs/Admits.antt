@@ -60,6 +60,12 @@ admits_low length kind e = ap (admits length) e
 -- a kind is 1 to 10
 pub admits_some : (length kind : ℕ) → admits length kind ≡ true → (1 ≤ kind) × (kind ≤ 10)
 admits_some length kind h = (
-  elim (cases_lt 0 kind) [ inl some ↦ omega (arith, some) | inr empty ↦ absurd (none (admits length kind) (admits_low length kind (omega (arith, empty))) h) ],
+  elim (cases_lt 0 kind) [
+    | inl some ↦ omega (
+      arith,
+      some,
+    )
+    | inr empty ↦ absurd (none (admits length kind) (admits_low length kind (omega (arith, empty))) h)
+  ],
   elim (cases_lt 10 kind) [ inl high ↦ absurd (none (admits length kind) (admits_high length kind high) h) | inr low ↦ low ],
 )

@@ -1,11 +1,21 @@
 -- A frame takes as many bytes as its length says.
-use Rattle.std.proofs.Common.{◌≡◌, ℕ, zero, suc, ◌+◌, ◌-◌, ◌*◌, ◌<◌, ◌≤◌, ◌⊎◌, inl, inr, Bool, true, false, cond, leb, eqb, List, length, drop, Option, Some, None, Result, Ok, Err, refl, sym, subst, arith, length-drop}
+use Rattle.std.proofs.Common.{◌≡◌, ℕ, zero, suc, ◌+◌, ◌-◌, ◌*◌, ◌<◌, ◌≤◌, ◌⊎◌, inl, inr, Bool, true, false, cond, leb, eqb, List, length}
+use Rattle.std.proofs.Common.{drop, Option, Some, None, Result, Ok, Err, refl, sym, subst, arith, length-drop}
 use Rattle.std.proofs.lemmas.Bool.{cases_lt, leb-true, eqb-true, and_parts, or_cases}
 use Rattle.chart_frames.specs.declared.fields.Stop.{Stop}
 use Rattle.chart_frames.specs.declared.fields.Stop.TheVariants.{More, Bad}
 use Rattle.chart_frames.specs.Format.{Format, field, number_in}
 use Rattle.chart_frames.specs.Reading.{read}
-use Rattle.chart_frames.specs.Fields.{within, is_values_length, is_length, admits, lesser, word_field, padded_field, name_fields, scale_field, facts_fields, listed_fields, series_list, listed_count_fields, pages_fields, catalog_fields, more_field, next_time_field, next_fields, counts_fields, run_fields, runs_fields, values_list, asked_fields, stored_values, values_fields, swept_fields, session_fields, side_field, side_fields, series_fields, window_fields, range_fields, axis_fields, slots_field, has_field, rmin_field, rmax_field, stored_fields, count_fields, key_field, difference_field, coef_fields, coefs_fields, place_fields, source_fields, view_fields, row_count_fields, column_field, value_field, at_most_field, at_least_field, between_field, row_fields, rows_fields, head_fields, done_fields, refused_fields, opened_fields, flag_fields, live_fields, kind_fields, length_field, kind_field, frame_fields}
+use Rattle.chart_frames.specs.Fields.{within, is_values_length, is_length, admits, lesser, word_field, padded_field, name_fields}
+use Rattle.chart_frames.specs.Fields.{scale_field, facts_fields, listed_fields, series_list, listed_count_fields, pages_fields}
+use Rattle.chart_frames.specs.Fields.{catalog_fields, more_field, next_time_field, next_fields, counts_fields, run_fields, runs_fields}
+use Rattle.chart_frames.specs.Fields.{values_list, asked_fields, stored_values, values_fields, swept_fields, session_fields, side_field}
+use Rattle.chart_frames.specs.Fields.{side_fields, series_fields, window_fields, range_fields, axis_fields, slots_field, has_field}
+use Rattle.chart_frames.specs.Fields.{rmin_field, rmax_field, stored_fields, count_fields, key_field, difference_field, coef_fields}
+use Rattle.chart_frames.specs.Fields.{coefs_fields, place_fields, source_fields, view_fields, row_count_fields, column_field, value_field}
+use Rattle.chart_frames.specs.Fields.{at_most_field, at_least_field, between_field, row_fields, rows_fields, head_fields, done_fields}
+use Rattle.chart_frames.specs.Fields.{refused_fields, opened_fields, flag_fields, live_fields, kind_fields, length_field, kind_field}
+use Rattle.chart_frames.specs.Fields.{frame_fields}
 use Rattle.chart_frames.specs.declared.limits.TheConstants.{MOST_SLOTS}
 use Rattle.chart_frames.proofs.FormatLaws.{Fills, Sized, read_there, read_short, read_sized}
 
@@ -49,7 +59,8 @@ rows_fill (suc count) w last m e = (
 )
 
 view_fill : (length : ℕ) → 84 ≤ length → Fills (length - 1) (view_fields length (λ slots count. coefs_fields slots None count))
-unfolding view_fields place_fields source_fields session_fields series_fields side_fields side_field window_fields range_fields axis_fields slots_field stored_fields has_field rmin_field rmax_field count_fields
+unfolding view_fields place_fields source_fields session_fields series_fields side_fields side_field window_fields range_fields axis_fields
+    slots_field stored_fields has_field rmin_field rmax_field count_fields
 view_fill length long = (
   omega arith,
   λ session _. (
@@ -81,7 +92,8 @@ view_fill length long = (
                             λ rmax _. (
                               omega arith,
                               λ count e.
-                                  coefs_fill count slots None (length - 1 - 4 - 2 - 2 - 2 - 8 - 8 - 8 - 8 - 8 - 4 - 8 - 1 - 8 - 8 - 4) (omega (arith, eqb-true (84 + 25 * count) length e)),
+                                  coefs_fill count slots None (length - 1 - 4 - 2 - 2 - 2 - 8 - 8 - 8 - 8 - 8 - 4 - 8 - 1 - 8 - 8 - 4)
+                                  (omega (arith, eqb-true (84 + 25 * count) length e)),
                             ),
                           ),
                         ),
@@ -113,7 +125,8 @@ head_fill length long = (
           λ hi _. (
             omega arith,
             λ count e.
-                rows_fill count w None (length - 1 - 4 - 2 - 2 - 8 - 8 - 2) (omega (arith, eqb-true (27 + 34 * count) length (and_parts (leb count w) (eqb (27 + 34 * count) length) e).1)),
+                rows_fill count w None (length - 1 - 4 - 2 - 2 - 8 - 8 - 2)
+                (omega (arith, eqb-true (27 + 34 * count) length (and_parts (leb count w) (eqb (27 + 34 * count) length) e).1)),
           ),
         ),
       ),
@@ -122,7 +135,8 @@ head_fill length long = (
 )
 
 series_fill : (count m : ℕ) → m ≡ 70 * count → Fills m (series_list count)
-unfolding series_list listed_fields name_fields padded_field facts_fields scale_field axis_fields slots_field stored_fields has_field rmin_field rmax_field
+unfolding series_list listed_fields name_fields padded_field facts_fields scale_field axis_fields slots_field stored_fields has_field
+    rmin_field rmax_field
 series_fill zero m e = omega (arith, e)
 series_fill (suc count) m e = (
   omega (arith, e),
@@ -169,7 +183,8 @@ unfolding values_list value_field
 values_list_fill zero m e = omega (arith, e)
 values_list_fill (suc count) m e = (omega (arith, e), λ v _. values_list_fill count (m - 8) (omega (arith, e)))
 
-runs_fill : (count from limit left m behind : ℕ) (next : Format) → m ≡ 16 * count + behind → Fills behind next → Fills m (runs_fields from limit left count next)
+runs_fill : (count from limit left m behind : ℕ) (next : Format) → m ≡ 16 * count + behind → Fills behind next
+    → Fills m (runs_fields from limit left count next)
 unfolding runs_fields run_fields
 runs_fill zero from limit left m behind next e h = let is : behind ≡ m = omega (arith, e) in subst (λ (k : ℕ). Fills k next) is h
 runs_fill (suc count) from limit left m behind next e h = (
@@ -195,7 +210,8 @@ values_fill length long = (
           omega arith,
           λ values e.
               let is = eqb-true (16 + (16 * runs + 8 * values)) length (and_parts (eqb (16 + (16 * runs + 8 * values)) length) _ e).0 in
-              runs_fill runs 0 MOST_SLOTS values (length - 1 - 2 - 1 - 8 - 2 - 2) (8 * values) (values_list values) (omega (arith, is)) (values_list_fill values (8 * values) refl),
+              runs_fill runs 0 MOST_SLOTS values (length - 1 - 2 - 1 - 8 - 2 - 2) (8 * values) (values_list values) (omega (arith, is))
+              (values_list_fill values (8 * values) refl),
         ),
       ),
     ),
@@ -212,7 +228,8 @@ values_long length h =
     ]
 
 -- the length that the chosen kind admits
-pick : (m : ℕ) (b : Bool) (p q : Bool) (f g : Format) → cond b p q ≡ true → (p ≡ true → Fills m f) → (q ≡ true → Fills m g) → Fills m (cond b f g)
+pick : (m : ℕ) (b : Bool) (p q : Bool) (f g : Format) → cond b p q ≡ true → (p ≡ true → Fills m f) → (q ≡ true → Fills m g)
+    → Fills m (cond b f g)
 pick m true p q f g h x y = x h
 pick m false p q f g h x y = y h
 
@@ -224,15 +241,20 @@ kind_fill : (length kind : ℕ) → admits length kind ≡ true → Fills (lengt
 unfolding admits kind_fields done_fields refused_fields opened_fields flag_fields live_fields swept_fields word_field session_fields
 kind_fill length kind h =
     pick (length - 1) (eqb kind 1) _ _ _ _ h (λ e. let is = eqb-true length 9 e in (omega (arith, is), λ slots _. omega (arith, is)))
-    (λ h. pick (length - 1) (eqb kind 2) _ _ _ _ h (λ e. let is = eqb-true length 18 e in (omega (arith, is), λ number _. (omega (arith, is), λ a _. (omega (arith, is), λ b _. omega (arith, is)))))
-    (λ h. pick (length - 1) (eqb kind 3) _ _ _ _ h (λ e. let is = eqb-true length 9 e in (omega (arith, is), λ session _. (omega (arith, is), λ cache _. omega (arith, is))))
-    (λ h. pick (length - 1) (eqb kind 4) _ _ _ _ h (λ e. let is = eqb-true length 5 e in (omega (arith, is), λ session _. omega (arith, is)))
+    (λ h. pick (length - 1) (eqb kind 2) _ _ _ _ h (λ e. let is = eqb-true length 18 e in
+    (omega (arith, is), λ number _. (omega (arith, is), λ a _. (omega (arith, is), λ b _. omega (arith, is)))))
+    (λ h. pick (length - 1) (eqb kind 3) _ _ _ _ h (λ e. let is = eqb-true length 9 e in
+    (omega (arith, is), λ session _. (omega (arith, is), λ cache _. omega (arith, is))))
+    (λ h. pick (length - 1) (eqb kind 4) _ _ _ _ h (λ e. let is = eqb-true length 5 e in
+    (omega (arith, is), λ session _. omega (arith, is)))
     (λ h. pick (length - 1) (eqb kind 5) _ _ _ _ h (λ e. view_fill length (leb-true 84 length (and_parts (leb 84 length) _ e).0))
     (λ h. pick (length - 1) (eqb kind 6) _ _ _ _ h (λ e. head_fill length (leb-true 27 length (and_parts (leb 27 length) _ e).0))
-    (λ h. pick (length - 1) (eqb kind 7) _ _ _ _ h (λ e. let is = eqb-true length 6 e in (omega (arith, is), λ session _. (omega (arith, is), λ flag _. omega (arith, is))))
+    (λ h. pick (length - 1) (eqb kind 7) _ _ _ _ h (λ e. let is = eqb-true length 6 e in
+    (omega (arith, is), λ session _. (omega (arith, is), λ flag _. omega (arith, is))))
     (λ h. pick (length - 1) (eqb kind 8) _ _ _ _ h (λ e. catalog_fill length (leb-true 11 length (and_parts (leb 11 length) _ e).0))
     (λ h. pick (length - 1) (eqb kind 9) _ _ _ _ h (λ e. values_fill length (values_long length e))
-    (λ h. let is = eqb-true length 8 (last_pick (eqb kind 10) (eqb length 8) h) in (omega (arith, is), λ clears _. (omega (arith, is), λ used _. (omega (arith, is), λ more _. omega (arith, is)))))))))))))
+    (λ h. let is = eqb-true length 8 (last_pick (eqb kind 10) (eqb length 8) h) in
+    (omega (arith, is), λ clears _. (omega (arith, is), λ used _. (omega (arith, is), λ more _. omega (arith, is)))))))))))))
 
 length_some : (length kind : ℕ) → is_length length ≡ true → 1 ≤ length
 length_some zero kind h = absurd (cc (h))
@@ -247,23 +269,28 @@ FrameSized bytes (Ok tail) = (4 ≤ length bytes) × (length bytes ≡ 4 + numbe
 FrameSized bytes (Err More) = (length bytes < 4) ⊎ (length bytes < 4 + number_in 4 bytes)
 FrameSized bytes (Err (Bad left)) = Unit {0}
 
-sized_frame : (bytes : List ℕ) (r : Result (List ℕ) Stop) → 4 ≤ length bytes → Sized (number_in 4 bytes) (length (drop 4 bytes)) r → FrameSized bytes r
+sized_frame : (bytes : List ℕ) (r : Result (List ℕ) Stop) → 4 ≤ length bytes → Sized (number_in 4 bytes) (length (drop 4 bytes)) r
+    → FrameSized bytes r
 sized_frame bytes (Ok tail) long h = (long, omega (arith, h, length-drop 4 bytes))
 sized_frame bytes (Err More) long h = inr (omega (arith, h, length-drop 4 bytes))
 sized_frame bytes (Err (Bad left)) long h = tt
 
 sized_by : (bytes : List ℕ) (b : Bool) → 4 ≤ length bytes → is_length (number_in 4 bytes) ≡ b
-    → FrameSized bytes (cond b (read (field 1 (admits (number_in 4 bytes)) (kind_fields (number_in 4 bytes))) (drop 4 bytes)) (Err (Bad (length bytes))))
+    → FrameSized bytes (cond b (read (field 1 (admits (number_in 4 bytes)) (kind_fields (number_in 4 bytes))) (drop 4 bytes))
+    (Err (Bad (length bytes))))
 sized_by bytes true long h =
     sized_frame bytes (read (field 1 (admits (number_in 4 bytes)) (kind_fields (number_in 4 bytes))) (drop 4 bytes)) long
-    (read_sized (field 1 (admits (number_in 4 bytes)) (kind_fields (number_in 4 bytes))) (number_in 4 bytes) (drop 4 bytes) (framed_fill (number_in 4 bytes) h))
+    (read_sized (field 1 (admits (number_in 4 bytes)) (kind_fields (number_in 4 bytes))) (number_in 4 bytes) (drop 4 bytes)
+    (framed_fill (number_in 4 bytes) h))
 sized_by bytes false long h = tt
 
 pub frame_sized : (bytes : List ℕ) → FrameSized bytes (read frame_fields bytes)
 unfolding frame_fields length_field kind_field
 frame_sized bytes =
     elim (cases_lt (length bytes) 4) [
-      | inl short ↦ subst (FrameSized bytes) (sym (read_short 4 is_length (λ length. field 1 (admits length) (kind_fields length)) bytes short)) (inl short)
-      | inr long ↦ subst (FrameSized bytes) (sym (read_there 4 is_length (λ length. field 1 (admits length) (kind_fields length)) bytes long))
+      | inl short ↦ subst (FrameSized bytes) (sym (read_short 4 is_length
+          (λ length. field 1 (admits length) (kind_fields length)) bytes short)) (inl short)
+      | inr long ↦ subst (FrameSized bytes) (sym (read_there 4 is_length
+          (λ length. field 1 (admits length) (kind_fields length)) bytes long))
           (sized_by bytes (is_length (number_in 4 bytes)) long refl)
     ]

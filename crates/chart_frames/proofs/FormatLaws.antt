@@ -1,5 +1,6 @@
 -- Laws of formats, once for all of them.
-use Rattle.std.proofs.Common.{◌≡◌, ℕ, ◌+◌, ◌-◌, ◌^◌, ◌<◌, ◌≤◌, Bool, true, false, cond, ltb, List, [], ◌∷◌, ◌++◌, length, drop, Result, Ok, Err, refl, inl, inr, sym, ap, subst, ◌∙◌, arith, append_assoc, length-append, length-drop}
+use Rattle.std.proofs.Common.{◌≡◌, ℕ, ◌+◌, ◌-◌, ◌^◌, ◌<◌, ◌≤◌, Bool, true, false, cond, ltb, List, [], ◌∷◌, ◌++◌, length, drop, Result, Ok}
+use Rattle.std.proofs.Common.{Err, refl, inl, inr, sym, ap, subst, ◌∙◌, arith, append_assoc, length-append, length-drop}
 use Rattle.std.specs.Bool.{IsTrue}
 use Rattle.std.proofs.lemmas.Bool.{cases_lt, le-ltb, lt-ltb}
 use Rattle.std.proofs.lemmas.List.{drop_at, get_or-drop}
@@ -19,11 +20,13 @@ error_of e = Err e
 
 -- a field that has its bytes
 pub read_there : (size : ℕ) (ok : ℕ → Bool) (next : ℕ → Format) (bytes : List ℕ) → size ≤ length bytes
-    → read (field size ok next) bytes ≡ cond (ok (number_in size bytes)) (read (next (number_in size bytes)) (drop size bytes)) (Err (Bad (length bytes)))
+    → read (field size ok next) bytes ≡ cond (ok (number_in size bytes)) (read (next (number_in size bytes)) (drop size bytes))
+    (Err (Bad (length bytes)))
 read_there size ok next bytes long = let e : ltb (length bytes) size ≡ false = le-ltb _ _ long in rw e refl
 
 -- a field that lacks bytes
-pub read_short : (size : ℕ) (ok : ℕ → Bool) (next : ℕ → Format) (bytes : List ℕ) → length bytes < size → read (field size ok next) bytes ≡ Err More
+pub read_short : (size : ℕ) (ok : ℕ → Bool) (next : ℕ → Format) (bytes : List ℕ) → length bytes < size
+    → read (field size ok next) bytes ≡ Err More
 read_short size ok next bytes short = let e : ltb (length bytes) size ≡ true = lt-ltb _ _ short in rw e refl
 
 -- a field that was written is passed over
@@ -33,8 +36,10 @@ passed size ok next n tail below holds =
     let len = length-number_bytes size n in
     let long : size ≤ length (number_bytes size n ++ tail) = omega (arith, length-append (number_bytes size n) tail) in
     read_there size ok next (number_bytes size n ++ tail) long
-    ∙ ap (λ (k : ℕ). cond (ok k) (read (next k) (drop size (number_bytes size n ++ tail))) (Err (Bad (length (number_bytes size n ++ tail))))) (number_again size n tail below)
-    ∙ ap (λ (b : Bool). cond b (read (next n) (drop size (number_bytes size n ++ tail))) (Err (Bad (length (number_bytes size n ++ tail))))) holds
+    ∙ ap (λ (k : ℕ). cond (ok k) (read (next k) (drop size (number_bytes size n ++ tail)))
+    (Err (Bad (length (number_bytes size n ++ tail))))) (number_again size n tail below)
+    ∙ ap (λ (b : Bool). cond b (read (next n) (drop size (number_bytes size n ++ tail))) (Err (Bad (length (number_bytes size n ++ tail)))))
+    holds
     ∙ ap (read (next n)) (drop_at (number_bytes size n) tail size len)
 
 -- ---- numbers that meet their rules
@@ -64,7 +69,8 @@ bad_read (field size ok next) bytes bad =
     ∙ ap (λ (b : Bool). cond b (read (next (number_in size bytes)) (drop size bytes)) (Err (Bad (length bytes)))) bad.1
 
 -- where a complete field breaks its rule, reading finds it
-pub breaks_read : (f : Format) (bytes : List ℕ) (at : ℕ) → Breaks f bytes at → (left : ℕ) × (at + left ≡ length bytes) × (read f bytes ≡ Err (Bad left))
+pub breaks_read : (f : Format) (bytes : List ℕ) (at : ℕ) → Breaks f bytes at
+    → (left : ℕ) × (at + left ≡ length bytes) × (read f bytes ≡ Err (Bad left))
 breaks_read f bytes at b = (
   length b.rest,
   omega (arith, b.offset, ap length b.begins, length-append (spell f b.numbers) b.rest),
@@ -72,7 +78,8 @@ breaks_read f bytes at b = (
 )
 
 -- a field more in front
-before_breaks : (size : ℕ) (ok : ℕ → Bool) (next : ℕ → Format) (bytes : List ℕ) (at : ℕ) → IsBytes bytes → size ≤ length bytes → IsTrue (ok (number_in size bytes))
+before_breaks : (size : ℕ) (ok : ℕ → Bool) (next : ℕ → Format) (bytes : List ℕ) (at : ℕ) → IsBytes bytes → size ≤ length bytes
+    → IsTrue (ok (number_in size bytes))
     → Breaks (next (number_in size bytes)) (drop size bytes) at → Breaks (field size ok next) bytes (size + at)
 before_breaks size ok next bytes at fits long holds b =
     let n = number_in size bytes in
@@ -80,7 +87,8 @@ before_breaks size ok next bytes at fits long holds b =
       numbers = n ∷ b.numbers;
       rest = b.rest;
       meets = (number_below size bytes fits, (holds, b.meets));
-      begins = number_spelled size bytes fits long ∙ ap (λ (p : List ℕ). number_bytes size n ++ p) b.begins ∙ sym (append_assoc (number_bytes size n) (spell (next n) b.numbers) b.rest);
+      begins = number_spelled size bytes fits long ∙ ap (λ (p : List ℕ). number_bytes size n ++ p) b.begins
+          ∙ sym (append_assoc (number_bytes size n) (spell (next n) b.numbers) b.rest);
       offset = omega (arith, b.offset, length-append (number_bytes size n) (spell (next n) b.numbers), length-number_bytes size n);
       bad = b.bad;
     }
@@ -93,8 +101,10 @@ more_bad left e = cc
 
 -- where the first field is complete
 breaks_there : (size : ℕ) (ok : ℕ → Bool) (next : ℕ → Format) (bytes : List ℕ) (left : ℕ) → IsBytes bytes → size ≤ length bytes
-    → (read (next (number_in size bytes)) (drop size bytes) ≡ Err (Bad left) → (at : ℕ) × (at + left ≡ length (drop size bytes)) × Breaks (next (number_in size bytes)) (drop size bytes) at)
-    → (b : Bool) → ok (number_in size bytes) ≡ b → cond b (read (next (number_in size bytes)) (drop size bytes)) (Err (Bad (length bytes))) ≡ Err (Bad left)
+    → (read (next (number_in size bytes)) (drop size bytes) ≡ Err (Bad left)
+    → (at : ℕ) × (at + left ≡ length (drop size bytes)) × Breaks (next (number_in size bytes)) (drop size bytes) at)
+    → (b : Bool) → ok (number_in size bytes) ≡ b → cond b (read (next (number_in size bytes)) (drop size bytes))
+    (Err (Bad (length bytes))) ≡ Err (Bad left)
     → (at : ℕ) × (at + left ≡ length bytes) × Breaks (field size ok next) bytes at
 breaks_there size ok next bytes left fits long within true holds e =
     let found = within e in
@@ -104,12 +114,14 @@ breaks_there size ok next bytes left fits long within false holds e =
     (0, omega (arith, same), record { numbers = []; rest = bytes; meets = tt; begins = refl; offset = refl; bad = (long, holds) })
 
 -- what reading finds is a complete field that breaks its rule
-pub read_breaks : (f : Format) (bytes : List ℕ) (left : ℕ) → IsBytes bytes → read f bytes ≡ Err (Bad left) → (at : ℕ) × (at + left ≡ length bytes) × Breaks f bytes at
+pub read_breaks : (f : Format) (bytes : List ℕ) (left : ℕ) → IsBytes bytes → read f bytes ≡ Err (Bad left)
+    → (at : ℕ) × (at + left ≡ length bytes) × Breaks f bytes at
 read_breaks stop bytes left fits e = absurd cc
 read_breaks (field size ok next) bytes left fits e =
     elim (cases_lt (length bytes) size) [
       | inl short ↦ absurd (more_bad left (sym (read_short size ok next bytes short) ∙ e))
-      | inr long ↦ breaks_there size ok next bytes left fits long (λ found. read_breaks (next (number_in size bytes)) (drop size bytes) left (IsBytes-drop size bytes fits) found)
+      | inr long ↦ breaks_there size ok next bytes left fits long
+          (λ found. read_breaks (next (number_in size bytes)) (drop size bytes) left (IsBytes-drop size bytes fits) found)
           (ok (number_in size bytes)) refl (sym (read_there size ok next bytes long) ∙ e)
     ]
 
@@ -166,10 +178,12 @@ read_sized (field size ok next) m bytes fills =
 -- ---- one spelling
 
 -- the number and what follows it are known from the bytes
-pub same_field : (size n m : ℕ) (x y : List ℕ) → n < 256 ^ size → m < 256 ^ size → number_bytes size n ++ x ≡ number_bytes size m ++ y → (n ≡ m) × (x ≡ y)
+pub same_field : (size n m : ℕ) (x y : List ℕ) → n < 256 ^ size → m < 256 ^ size → number_bytes size n ++ x ≡ number_bytes size m ++ y
+    → (n ≡ m) × (x ≡ y)
 same_field size n m x y p q e = (
   sym (number_again size n x p) ∙ ap (number_in size) e ∙ number_again size m y q,
-  sym (drop_at (number_bytes size n) x size (length-number_bytes size n)) ∙ ap (drop size) e ∙ drop_at (number_bytes size m) y size (length-number_bytes size m),
+  sym (drop_at (number_bytes size n) x size (length-number_bytes size n)) ∙ ap (drop size) e
+      ∙ drop_at (number_bytes size m) y size (length-number_bytes size m),
 )
 
 -- the numbers and what follows them are known from the bytes
@@ -184,7 +198,8 @@ one_reading (field size ok next) (n ∷ ns) (m ∷ ms) x y p q s t e =
     let regrouped : number_bytes size n ++ (spell (next n) ns ++ x) ≡ number_bytes size m ++ (spell (next m) ms ++ y) =
     sym (append_assoc (number_bytes size n) (spell (next n) ns) x) ∙ e ∙ append_assoc (number_bytes size m) (spell (next m) ms) y in
     let first = same_field size n m (spell (next n) ns ++ x) (spell (next m) ms ++ y) p.0 q.0 regrouped in
-    let P : ℕ → Type 0 = λ k. Meets (next k) ms → IsEnd (after (next k) ms) → spell (next n) ns ++ x ≡ spell (next k) ms ++ y → (ns ≡ ms) × (x ≡ y) in
+    let P : ℕ → Type 0 = λ k. Meets (next k) ms → IsEnd (after (next k) ms) → spell (next n) ns ++ x ≡ spell (next k) ms ++ y → (ns ≡ ms)
+    × (x ≡ y) in
     let rest : (ns ≡ ms) × (x ≡ y) = subst P first.0 (λ q' t' e'. one_reading (next n) ns ms x y p.1.1 q' s t' e') q.1.1 t first.1 in
     (cons_same n m ns ms first.0 rest.0, rest.1)
 
@@ -200,4 +215,5 @@ pub spelled_before : (f : Format) (ns tail : List ℕ) → spell f ns ++ tail �
 spelled_before f [] tail = refl
 spelled_before stop (n ∷ ns) tail = refl
 spelled_before (field size ok next) (n ∷ ns) tail =
-    append_assoc (number_bytes size n) (spell (next n) ns) tail ∙ ap (λ (p : List ℕ). number_bytes size n ++ p) (spelled_before (next n) ns tail)
+    append_assoc (number_bytes size n) (spell (next n) ns) tail
+    ∙ ap (λ (p : List ℕ). number_bytes size n ++ p) (spelled_before (next n) ns tail)

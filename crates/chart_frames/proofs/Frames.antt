@@ -1,5 +1,6 @@
 -- Frames and their spellings.
-use Rattle.std.proofs.Common.{◌≡◌, ℕ, ℤ, zero, suc, ◌+◌, ◌-◌, ◌*◌, ◌/◌, ◌%◌, ◌^◌, ◌<◌, ◌≤◌, Bool, true, false, not, ◌||◌, cond, eqb, List, [], ◌∷◌, ◌++◌, length, get_or, drop, Option, Some, None, Ok, refl, sym, ap, ◌∙◌, subst, arith}
+use Rattle.std.proofs.Common.{◌≡◌, ℕ, ℤ, zero, suc, ◌+◌, ◌-◌, ◌*◌, ◌/◌, ◌%◌, ◌^◌, ◌<◌, ◌≤◌, Bool, true, false, not, ◌||◌, cond, eqb, List}
+use Rattle.std.proofs.Common.{[], ◌∷◌, ◌++◌, length, get_or, drop, Option, Some, None, Ok, refl, sym, ap, ◌∙◌, subst, arith}
 use Rattle.om3_coeff.specs.declared.key.Key.{Key}
 use Rattle.om3_coeff.specs.declared.coef.Coef.{Coef}
 use Rattle.om3_coeff.specs.Keys.{height, IsNode}
@@ -13,15 +14,25 @@ use Rattle.chart_frames.specs.declared.frame.ViewFrame.{ViewFrame}
 use Rattle.chart_frames.specs.declared.frame.RowsFrame.{RowsFrame}
 use Rattle.chart_frames.specs.Format.{Format, stop, spell, after, Meets, IsEnd}
 use Rattle.chart_frames.specs.Reading.{read}
-use Rattle.chart_frames.specs.Fields.{session_fields, side_field, side_fields, series_fields, window_fields, range_fields, axis_fields, slots_field, has_field, rmin_field, rmax_field, stored_fields, count_fields, key_field, difference_field, coef_fields, coefs_fields, place_fields, source_fields, view_fields, row_count_fields, column_field, value_field, at_most_field, at_least_field, between_field, row_fields, rows_fields, head_fields, done_fields, refused_fields, opened_fields, flag_fields, live_fields, kind_fields, length_field, kind_field, frame_fields}
-use Rattle.chart_frames.specs.Frames.{unsigned, key_number, flags_of, coefs_numbers, all_rows_numbers, view_numbers, rows_numbers, numbers_of, report_numbers, spelling, Fits, IsCoef, FitsCoef, FitCoefs, FitsViewHead, FitsView, FitsRow, FitRows, FitsRowsHead, FitsRows}
-use Rattle.chart_frames.specs.Spelled.{framed, place_before, source_before, view_before, coef_before, coefs_before, rows_before, row_before, rows_all_before, frame_before}
+use Rattle.chart_frames.specs.Fields.{session_fields, side_field, side_fields, series_fields, window_fields, range_fields, axis_fields}
+use Rattle.chart_frames.specs.Fields.{slots_field, has_field, rmin_field, rmax_field, stored_fields, count_fields, key_field}
+use Rattle.chart_frames.specs.Fields.{difference_field, coef_fields, coefs_fields, place_fields, source_fields, view_fields}
+use Rattle.chart_frames.specs.Fields.{row_count_fields, column_field, value_field, at_most_field, at_least_field, between_field, row_fields}
+use Rattle.chart_frames.specs.Fields.{rows_fields, head_fields, done_fields, refused_fields, opened_fields, flag_fields, live_fields}
+use Rattle.chart_frames.specs.Fields.{kind_fields, length_field, kind_field, frame_fields}
+use Rattle.chart_frames.specs.Frames.{unsigned, key_number, flags_of, coefs_numbers, all_rows_numbers, view_numbers, rows_numbers}
+use Rattle.chart_frames.specs.Frames.{numbers_of, report_numbers, spelling, Fits, IsCoef, FitsCoef, FitCoefs, FitsViewHead, FitsView}
+use Rattle.chart_frames.specs.Frames.{FitsRow, FitRows, FitsRowsHead, FitsRows}
+use Rattle.chart_frames.specs.Spelled.{framed, place_before, source_before, view_before, coef_before, coefs_before, rows_before, row_before}
+use Rattle.chart_frames.specs.Spelled.{rows_all_before, frame_before}
 use Rattle.chart_frames.specs.Items.{last_key, last_column}
 use Rattle.chart_frames.proofs.FormatLaws.{spell_before, spelled_before, passed_all, read_again, one_reading}
 use Rattle.chart_frames.proofs.Items.{coefs_fields-end, rows_fields-end}
 use Rattle.chart_frames.proofs.Orders.{index_bound, level_of-number, index_of-number}
-use Rattle.chart_frames.proofs.ReportNumbers.{from_signed, number_of, value_round, report_meets, report_ends, report_spelled, report_from, report_back}
-use Rattle.chart_frames.proofs.Meets.{round, view_numbers_meet, view_numbers_after, rows_numbers_meet, rows_numbers_after, done_meets, refused_meets, opened_meets, closed_meets, live_meets}
+use Rattle.chart_frames.proofs.ReportNumbers.{from_signed, number_of, value_round, report_meets, report_ends, report_spelled, report_from}
+use Rattle.chart_frames.proofs.ReportNumbers.{report_back}
+use Rattle.chart_frames.proofs.Meets.{round, view_numbers_meet, view_numbers_after, rows_numbers_meet, rows_numbers_after, done_meets}
+use Rattle.chart_frames.proofs.Meets.{refused_meets, opened_meets, closed_meets, live_meets}
 
 -- ---- the numbers meet the format
 
@@ -45,9 +56,11 @@ fits_ends (Refused number a b) h = tt
 fits_ends (Opened session cache) h = tt
 fits_ends (Closed session) h = tt
 fits_ends (View v) h =
-    ended (after frame_fields (view_numbers v v.coefs)) (view_numbers_after v v.coefs (omega (arith, h.count)) ∙ coefs_fields-end v.slots (last_key v.coefs) (length v.coefs) v.count (sym h.count))
+    ended (after frame_fields (view_numbers v v.coefs)) (view_numbers_after v v.coefs (omega (arith, h.count))
+    ∙ coefs_fields-end v.slots (last_key v.coefs) (length v.coefs) v.count (sym h.count))
 fits_ends (Rows r) h =
-    ended (after frame_fields (rows_numbers r r.rows)) (rows_numbers_after r r.rows (omega (arith, h.count)) ∙ rows_fields-end r.w (last_column r.rows) (length r.rows) r.count (sym h.count))
+    ended (after frame_fields (rows_numbers r r.rows)) (rows_numbers_after r r.rows (omega (arith, h.count))
+    ∙ rows_fields-end r.w (last_column r.rows) (length r.rows) r.count (sym h.count))
 fits_ends (Live session on) h = tt
 fits_ends (frames.Report r) h = report_ends r
 
@@ -70,8 +83,11 @@ rows_spelled w last (r ∷ rs) (suc count) tail room =
     ap (row_before r) (rows_spelled w (Some r.column) rs count tail (omega arith))
 
 view_framed : (v : ViewFrame) (coefs : List (Key × Coef)) (tail : List ℕ)
-    → spell_before frame_fields (view_numbers v coefs) tail ≡ framed (84 + 25 * v.count) 5 (view_before v (spell_before (coefs_fields v.slots None v.count) (coefs_numbers coefs) tail))
-unfolding frame_fields length_field kind_field kind_fields view_fields place_fields source_fields session_fields series_fields side_fields side_field window_fields range_fields axis_fields slots_field stored_fields has_field rmin_field rmax_field count_fields place_before source_before
+    → spell_before frame_fields (view_numbers v coefs) tail ≡ framed (84 + 25 * v.count) 5
+    (view_before v (spell_before (coefs_fields v.slots None v.count) (coefs_numbers coefs) tail))
+unfolding frame_fields length_field kind_field kind_fields view_fields place_fields source_fields session_fields series_fields side_fields
+    side_field window_fields range_fields axis_fields slots_field stored_fields has_field rmin_field rmax_field count_fields place_before
+    source_before
 view_framed v coefs tail = refl
 
 pub view_spelled : (v : ViewFrame) (coefs : List (Key × Coef)) (tail : List ℕ) → length coefs ≤ v.count
@@ -81,8 +97,10 @@ view_spelled v coefs tail room =
     ∙ ap (λ (p : List ℕ). framed (84 + 25 * v.count) 5 (view_before v p)) (coefs_spelled v.slots None coefs v.count tail room)
 
 rows_framed : (r : RowsFrame) (rows : List Row) (tail : List ℕ)
-    → spell_before frame_fields (rows_numbers r rows) tail ≡ framed (27 + 34 * r.count) 6 (rows_before r (spell_before (rows_fields r.w None r.count) (all_rows_numbers rows) tail))
-unfolding frame_fields length_field kind_field kind_fields head_fields session_fields side_fields side_field range_fields row_count_fields rows_before
+    → spell_before frame_fields (rows_numbers r rows) tail ≡ framed (27 + 34 * r.count) 6
+    (rows_before r (spell_before (rows_fields r.w None r.count) (all_rows_numbers rows) tail))
+unfolding frame_fields length_field kind_field kind_fields head_fields session_fields side_fields side_field range_fields row_count_fields
+    rows_before
 rows_framed r rows tail = refl
 
 pub rows_frame_spelled : (r : RowsFrame) (rows : List Row) (tail : List ℕ) → length rows ≤ r.count
@@ -110,17 +128,22 @@ pub frame_again : (f : Frame) (tail : List ℕ) → Fits f → read frame_fields
 frame_again f tail h = read_again frame_fields (numbers_of f) tail (fits_meets f h) (fits_ends f h)
 
 -- a view is read on behind its first coefficients
-pub view_read_on : (v : ViewFrame) (coefs : List (Key × Coef)) (tail : List ℕ) → FitsViewHead v → FitCoefs v.slots coefs → length coefs ≤ v.count
-    → read frame_fields (framed (84 + 25 * v.count) 5 (view_before v (coefs_before coefs tail))) ≡ read (coefs_fields v.slots (last_key coefs) (v.count - length coefs)) tail
+pub view_read_on : (v : ViewFrame) (coefs : List (Key × Coef)) (tail : List ℕ) → FitsViewHead v → FitCoefs v.slots coefs
+    → length coefs ≤ v.count
+    → read frame_fields (framed (84 + 25 * v.count) 5 (view_before v (coefs_before coefs tail))) ≡ read
+    (coefs_fields v.slots (last_key coefs) (v.count - length coefs)) tail
 view_read_on v coefs tail head fit room =
-    ap (read frame_fields) (sym (view_spelled v coefs tail room)) ∙ passed_all frame_fields (view_numbers v coefs) tail (view_numbers_meet v coefs head fit room)
+    ap (read frame_fields) (sym (view_spelled v coefs tail room))
+    ∙ passed_all frame_fields (view_numbers v coefs) tail (view_numbers_meet v coefs head fit room)
     ∙ ap (λ (f : Format). read f tail) (view_numbers_after v coefs room)
 
 -- a frame of rows is read on behind its first rows
 pub rows_read_on : (r : RowsFrame) (rows : List Row) (tail : List ℕ) → FitsRowsHead r → FitRows r.w rows → length rows ≤ r.count
-    → read frame_fields (framed (27 + 34 * r.count) 6 (rows_before r (rows_all_before rows tail))) ≡ read (rows_fields r.w (last_column rows) (r.count - length rows)) tail
+    → read frame_fields (framed (27 + 34 * r.count) 6 (rows_before r (rows_all_before rows tail))) ≡ read
+    (rows_fields r.w (last_column rows) (r.count - length rows)) tail
 rows_read_on r rows tail head fit room =
-    ap (read frame_fields) (sym (rows_frame_spelled r rows tail room)) ∙ passed_all frame_fields (rows_numbers r rows) tail (rows_numbers_meet r rows head fit room)
+    ap (read frame_fields) (sym (rows_frame_spelled r rows tail room))
+    ∙ passed_all frame_fields (rows_numbers r rows) tail (rows_numbers_meet r rows head fit room)
     ∙ ap (λ (f : Format). read f tail) (rows_numbers_after r rows room)
 
 -- ---- a frame from its numbers
@@ -210,46 +233,67 @@ halves_back false false h = absurd cc
 
 coef_same : (a b c d : Bool) (x y z w : ℤ) → a ≡ b → c ≡ d → x ≡ y → z ≡ w → coef_at a c x z ≡ coef_at b d y w
 coef_same a b c d x y z w e f g h =
-    ap (λ (p : Bool). coef_at p c x z) e ∙ ap (λ (p : Bool). coef_at b p x z) f ∙ ap (λ (p : ℤ). coef_at b d p z) g ∙ ap (λ (p : ℤ). coef_at b d y p) h
+    ap (λ (p : Bool). coef_at p c x z) e ∙ ap (λ (p : Bool). coef_at b p x z) f ∙ ap (λ (p : ℤ). coef_at b d p z) g
+    ∙ ap (λ (p : ℤ). coef_at b d y p) h
 
 coef_back : (c : Coef) → IsCoef c → coef_from (flags_of c) (from_signed (unsigned c.dmin)) (from_signed (unsigned c.dmax)) ≡ c
 coef_back c h =
     let halves = halves_back c.left c.right h.some in
-    coef_same (not (eqb (flags_of c) 2)) c.left (not (eqb (flags_of c) 1)) c.right (from_signed (unsigned c.dmin)) c.dmin (from_signed (unsigned c.dmax)) c.dmax halves.0 halves.1 (round c.dmin h.least) (round c.dmax h.greatest)
+    coef_same (not (eqb (flags_of c) 2)) c.left (not (eqb (flags_of c) 1)) c.right (from_signed (unsigned c.dmin)) c.dmin
+    (from_signed (unsigned c.dmax)) c.dmax halves.0 halves.1 (round c.dmin h.least) (round c.dmax h.greatest)
 
 pair_same : (k l : Key) (c d : Coef) (es fs : List (Key × Coef)) → k ≡ l → c ≡ d → es ≡ fs → (k, c) ∷ es ≡ (l, d) ∷ fs
-pair_same k l c d es fs p q r = ap (λ (x : Key). (x, c) ∷ es) p ∙ ap (λ (x : Coef). (l, x) ∷ es) q ∙ ap (λ (x : List (Key × Coef)). (l, d) ∷ x) r
+pair_same k l c d es fs p q r = ap (λ (x : Key). (x, c) ∷ es) p ∙ ap (λ (x : Coef). (l, x) ∷ es) q
+    ∙ ap (λ (x : List (Key × Coef)). (l, d) ∷ x) r
 
-coefs_back : (slots : ℕ) (coefs : List (Key × Coef)) → ((k : ℕ) (d : Key × Coef) → k < length coefs → FitsCoef slots (get_or coefs k d)) → coefs_from (coefs_numbers coefs) ≡ coefs
+coefs_back : (slots : ℕ) (coefs : List (Key × Coef)) → ((k : ℕ) (d : Key × Coef) → k < length coefs → FitsCoef slots (get_or coefs k d))
+    → coefs_from (coefs_numbers coefs) ≡ coefs
 coefs_back slots [] fit = refl
 coefs_back slots (e ∷ es) fit =
     let first : FitsCoef slots e = fit 0 e (omega arith) in
-    pair_same (key_from (key_number e.0)) e.0 (coef_from (flags_of e.1) (from_signed (unsigned e.1.dmin)) (from_signed (unsigned e.1.dmax))) e.1 (coefs_from (coefs_numbers es)) es
+    pair_same (key_from (key_number e.0)) e.0 (coef_from (flags_of e.1) (from_signed (unsigned e.1.dmin)) (from_signed (unsigned e.1.dmax)))
+    e.1 (coefs_from (coefs_numbers es)) es
     (key_back slots e.0 first.key) (coef_back e.1 first.coef) (coefs_back slots es (λ k d lt. fit (suc k) d (omega arith)))
 
 abbrev row_at : ℕ → ℤ → ℤ → ℤ → ℤ → Row
 row_at c f l g e = record { column = c; first = f; least = l; greatest = g; last = e }
 
-row_same : (c : ℕ) (f f' l l' g g' e e' : ℤ) (rs ss : List Row) → f ≡ f' → l ≡ l' → g ≡ g' → e ≡ e' → rs ≡ ss → row_at c f l g e ∷ rs ≡ row_at c f' l' g' e' ∷ ss
+row_same : (c : ℕ) (f f' l l' g g' e e' : ℤ) (rs ss : List Row) → f ≡ f' → l ≡ l' → g ≡ g' → e ≡ e' → rs ≡ ss
+    → row_at c f l g e ∷ rs ≡ row_at c f' l' g' e' ∷ ss
 row_same c f f' l l' g g' e e' rs ss p q r s t =
-    ap (λ (x : ℤ). row_at c x l g e ∷ rs) p ∙ ap (λ (x : ℤ). row_at c f' x g e ∷ rs) q ∙ ap (λ (x : ℤ). row_at c f' l' x e ∷ rs) r ∙ ap (λ (x : ℤ). row_at c f' l' g' x ∷ rs) s
+    ap (λ (x : ℤ). row_at c x l g e ∷ rs) p ∙ ap (λ (x : ℤ). row_at c f' x g e ∷ rs) q ∙ ap (λ (x : ℤ). row_at c f' l' x e ∷ rs) r
+    ∙ ap (λ (x : ℤ). row_at c f' l' g' x ∷ rs) s
     ∙ ap (λ (x : List Row). row_at c f' l' g' e' ∷ x) t
 
-rows_back : (w : ℕ) (rows : List Row) → ((k : ℕ) (d : Row) → k < length rows → FitsRow w (get_or rows k d)) → rows_from (all_rows_numbers rows) ≡ rows
+rows_back : (w : ℕ) (rows : List Row) → ((k : ℕ) (d : Row) → k < length rows → FitsRow w (get_or rows k d))
+    → rows_from (all_rows_numbers rows) ≡ rows
 rows_back w [] fit = refl
 rows_back w (r ∷ rs) fit =
     let h : FitsRow w r = fit 0 r (omega arith) in
     row_same r.column _ r.first _ r.least _ r.greatest _ r.last (rows_from (all_rows_numbers rs)) rs
-    (value_round r.first h.first) (value_round r.least h.least) (value_round r.greatest h.greatest) (value_round r.last h.last) (rows_back w rs (λ k d lt. fit (suc k) d (omega arith)))
+    (value_round r.first h.first) (value_round r.least h.least) (value_round r.greatest h.greatest) (value_round r.last h.last)
+    (rows_back w rs (λ k d lt. fit (suc k) d (omega arith)))
 
 abbrev view_with : ViewFrame → ℤ → ℤ → ℤ → ℤ → ℤ → ℤ → ℤ → List (Key × Coef) → ViewFrame
-view_with v t0 t1 lo hi start rmin rmax coefs = record v { t0 = t0; t1 = t1; lo = lo; hi = hi; start = start; rmin = rmin; rmax = rmax; coefs = coefs }
+view_with v t0 t1 lo hi start rmin rmax coefs = record v {
+  t0 = t0;
+  t1 = t1;
+  lo = lo;
+  hi = hi;
+  start = start;
+  rmin = rmin;
+  rmax = rmax;
+  coefs = coefs;
+}
 
-view_same : (v : ViewFrame) (a a' b b' c c' d d' e e' f f' g g' : ℤ) (x x' : List (Key × Coef)) → a ≡ a' → b ≡ b' → c ≡ c' → d ≡ d' → e ≡ e' → f ≡ f' → g ≡ g' → x ≡ x'
+view_same : (v : ViewFrame) (a a' b b' c c' d d' e e' f f' g g' : ℤ) (x x' : List (Key × Coef)) → a ≡ a' → b ≡ b' → c ≡ c' → d ≡ d' → e ≡ e'
+    → f ≡ f' → g ≡ g' → x ≡ x'
     → view_with v a b c d e f g x ≡ view_with v a' b' c' d' e' f' g' x'
 view_same v a a' b b' c c' d d' e e' f f' g g' x x' p q r s t u w y =
-    ap (λ (z : ℤ). view_with v z b c d e f g x) p ∙ ap (λ (z : ℤ). view_with v a' z c d e f g x) q ∙ ap (λ (z : ℤ). view_with v a' b' z d e f g x) r
-    ∙ ap (λ (z : ℤ). view_with v a' b' c' z e f g x) s ∙ ap (λ (z : ℤ). view_with v a' b' c' d' z f g x) t ∙ ap (λ (z : ℤ). view_with v a' b' c' d' e' z g x) u
+    ap (λ (z : ℤ). view_with v z b c d e f g x) p ∙ ap (λ (z : ℤ). view_with v a' z c d e f g x) q
+    ∙ ap (λ (z : ℤ). view_with v a' b' z d e f g x) r
+    ∙ ap (λ (z : ℤ). view_with v a' b' c' z e f g x) s ∙ ap (λ (z : ℤ). view_with v a' b' c' d' z f g x) t
+    ∙ ap (λ (z : ℤ). view_with v a' b' c' d' e' z g x) u
     ∙ ap (λ (z : ℤ). view_with v a' b' c' d' e' f' z x) w ∙ ap (λ (z : List (Key × Coef)). view_with v a' b' c' d' e' f' g' z) y
 
 view_back : (v : ViewFrame) → FitsView v → view_from (view_numbers v v.coefs) ≡ v
@@ -268,7 +312,8 @@ rows_frame_back r h =
     let lo = value_round r.lo h.head.range.low in
     let hi = value_round r.hi h.head.range.high in
     ap (λ (z : ℤ). rows_with r z (from_signed (unsigned r.hi)) (rows_from (all_rows_numbers r.rows))) lo
-    ∙ ap (λ (z : ℤ). rows_with r r.lo z (rows_from (all_rows_numbers r.rows))) hi ∙ ap (λ (z : List Row). rows_with r r.lo r.hi z) (rows_back r.w r.rows h.rows.each)
+    ∙ ap (λ (z : ℤ). rows_with r r.lo z (rows_from (all_rows_numbers r.rows))) hi
+    ∙ ap (λ (z : List Row). rows_with r r.lo r.hi z) (rows_back r.w r.rows h.rows.each)
 
 frame_back : (f : Frame) → Fits f → frame_from (numbers_of f) ≡ f
 frame_back (Done slots) h = refl
@@ -286,5 +331,6 @@ frame_back (frames.Report (Swept clears used more)) h = ap (λ (r : Report). fra
 -- two frames at the front of the same bytes are one, and so is what follows
 pub same_frame : (f g : Frame) (x y : List ℕ) → Fits f → Fits g → spelling f ++ x ≡ spelling g ++ y → (f ≡ g) × (x ≡ y)
 same_frame f g x y p q e =
-    let both = one_reading frame_fields (numbers_of f) (numbers_of g) x y (fits_meets f p) (fits_meets g q) (fits_ends f p) (fits_ends g q) e in
+    let both = one_reading frame_fields (numbers_of f) (numbers_of g) x y (fits_meets f p) (fits_meets g q) (fits_ends f p)
+    (fits_ends g q) e in
     (sym (frame_back f p) ∙ ap frame_from both.0 ∙ frame_back g q, both.1)

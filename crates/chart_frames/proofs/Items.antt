@@ -11,11 +11,13 @@ use Rattle.chart_frames.specs.declared.item_stop.ItemStop.TheVariants as stops
 use Rattle.chart_frames.specs.Items.{Fails, last_key, last_column}
 use Rattle.chart_frames.specs.Spelled.{coef_before, coefs_before, row_before, rows_all_before}
 
-pub coefs_before-push : (xs : List (Key × Coef)) (e : Key × Coef) (tail : List ℕ) → coefs_before (xs ++ e ∷ []) tail ≡ coefs_before xs (coef_before e tail)
+pub coefs_before-push : (xs : List (Key × Coef)) (e : Key × Coef) (tail : List ℕ)
+    → coefs_before (xs ++ e ∷ []) tail ≡ coefs_before xs (coef_before e tail)
 coefs_before-push [] e tail = refl
 coefs_before-push (x ∷ xs) e tail = ap (coef_before x) (coefs_before-push xs e tail)
 
-pub rows_all_before-push : (xs : List Row) (r : Row) (tail : List ℕ) → rows_all_before (xs ++ r ∷ []) tail ≡ rows_all_before xs (row_before r tail)
+pub rows_all_before-push : (xs : List Row) (r : Row) (tail : List ℕ)
+    → rows_all_before (xs ++ r ∷ []) tail ≡ rows_all_before xs (row_before r tail)
 rows_all_before-push [] r tail = refl
 rows_all_before-push (x ∷ xs) r tail = ap (row_before x) (rows_all_before-push xs r tail)
 
@@ -51,8 +53,10 @@ pub coefs_ended : (e : ItemStop) (slots : ℕ) (xs ys : List (Key × Coef)) (cou
     → Fails e (read (coefs_fields slots (last_key ys) (count - length ys)) tail)
 coefs_ended e slots xs ys count tail below same found =
     let P : List (Key × Coef) → Type 0 = λ zs. Fails e (read (coefs_fields slots (last_key zs) (count - length zs)) tail) in
-    subst P (sym same) (fails_by e (coefs_fields slots (last_key xs) (count - length xs)) (key_field slots (last_key xs) (λ key. coef_fields (coefs_fields slots (Some key) (count - suc (length xs))))) tail
-    (coefs_fields-next slots (last_key xs) (length xs) count below) (found (λ key. coefs_fields slots (Some key) (count - suc (length xs)))))
+    subst P (sym same) (fails_by e (coefs_fields slots (last_key xs) (count - length xs))
+    (key_field slots (last_key xs) (λ key. coef_fields (coefs_fields slots (Some key) (count - suc (length xs))))) tail
+    (coefs_fields-next slots (last_key xs) (length xs) count below)
+    (found (λ key. coefs_fields slots (Some key) (count - suc (length xs)))))
 
 -- reading ends at the next row
 pub rows_ended : (e : ItemStop) (w : ℕ) (xs ys : List Row) (count : ℕ) (tail : List ℕ) → length xs < count → ys ≡ xs
@@ -60,5 +64,6 @@ pub rows_ended : (e : ItemStop) (w : ℕ) (xs ys : List Row) (count : ℕ) (tail
     → Fails e (read (rows_fields w (last_column ys) (count - length ys)) tail)
 rows_ended e w xs ys count tail below same found =
     let P : List Row → Type 0 = λ zs. Fails e (read (rows_fields w (last_column zs) (count - length zs)) tail) in
-    subst P (sym same) (fails_by e (rows_fields w (last_column xs) (count - length xs)) (column_field w (last_column xs) (λ column. row_fields (rows_fields w (Some column) (count - suc (length xs))))) tail
+    subst P (sym same) (fails_by e (rows_fields w (last_column xs) (count - length xs))
+    (column_field w (last_column xs) (λ column. row_fields (rows_fields w (Some column) (count - suc (length xs))))) tail
     (rows_fields-next w (last_column xs) (length xs) count below) (found (λ column. rows_fields w (Some column) (count - suc (length xs)))))

@@ -1,9 +1,11 @@
 -- No frame is longer than the limit.
-use Rattle.std.proofs.Common.{◌≡◌, ℕ, ◌+◌, ◌-◌, ◌/◌, ◌%◌, ◌<◌, ◌≤◌, inl, inr, Bool, true, false, ◌&&◌, ◌||◌, leb, eqb, List, [], ◌++◌, length, refl, arith, length-append}
+use Rattle.std.proofs.Common.{◌≡◌, ℕ, ◌+◌, ◌-◌, ◌/◌, ◌%◌, ◌<◌, ◌≤◌, inl, inr, Bool, true, false, ◌&&◌, ◌||◌, leb, eqb, List, [], ◌++◌}
+use Rattle.std.proofs.Common.{length, refl, arith, length-append}
 use Rattle.std.proofs.lemmas.Bool.{cases_lt, leb-true, eqb-true, and_parts}
 use Rattle.chart_frames.specs.declared.frame.Frame.{Frame}
 use Rattle.chart_frames.specs.Format.{number_in, Breaks}
-use Rattle.chart_frames.specs.Fields.{is_view_length, is_rows_length, is_catalog_length, is_values_length, is_report_length, is_length, length_field, frame_fields}
+use Rattle.chart_frames.specs.Fields.{is_view_length, is_rows_length, is_catalog_length, is_values_length, is_report_length, is_length}
+use Rattle.chart_frames.specs.Fields.{length_field, frame_fields}
 use Rattle.chart_frames.specs.Frames.{Fits, spelling}
 use Rattle.chart_frames.proofs.Streams.{spelled_good, spelled_length}
 

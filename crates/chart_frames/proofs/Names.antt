@@ -1,5 +1,6 @@
 -- Names in 31 bytes.
-use Rattle.std.proofs.Common.{◌≡◌, ℕ, zero, suc, ◌-◌, ◌^◌, ◌<◌, ◌≤◌, ◌&&◌, true, List, [], ◌∷◌, ◌++◌, length, take, drop, replicate, refl, sym, ap, ◌∙◌, arith, length-append}
+use Rattle.std.proofs.Common.{◌≡◌, ℕ, zero, suc, ◌-◌, ◌^◌, ◌<◌, ◌≤◌, ◌&&◌, true, List, [], ◌∷◌, ◌++◌, length, take, drop, replicate, refl}
+use Rattle.std.proofs.Common.{sym, ap, ◌∙◌, arith, length-append}
 use Rattle.std.specs.Prelude.{nat_le}
 use Rattle.std.specs.Bool.{IsTrue}
 use Rattle.std.specs.List.{list_all}
@@ -58,17 +59,26 @@ blanks_are (b ∷ bs) h =
 pub name_padded : (name : List ℕ) → IsTrue (is_name name) → number_bytes 31 (name_number name) ≡ name ++ replicate (31 - length name) 0
 name_padded name named =
     let sizes = name_length name named in
-    let whole : 31 ≡ length (name ++ replicate (31 - length name) 0) = omega (arith, sizes.1, length-append name (replicate (31 - length name) 0), length-replicate {A = ℕ} (31 - length name) 0) in
-    number_bytes_in 31 (name ++ replicate (31 - length name) 0) (padded_bytes name (31 - length name) (small_bytes name (name_bytes name named))) whole
+    let whole : 31 ≡ length (name ++ replicate (31 - length name) 0) = omega (
+      arith,
+      sizes.1,
+      length-append name (replicate (31 - length name) 0),
+      length-replicate {A = ℕ} (31 - length name) 0,
+    ) in
+    number_bytes_in 31 (name ++ replicate (31 - length name) 0)
+    (padded_bytes name (31 - length name) (small_bytes name (name_bytes name named))) whole
 
 pub name_below : (name : List ℕ) → IsTrue (is_name name) → name_number name < 256 ^ 31
-name_below name named = number_below 31 (name ++ replicate (31 - length name) 0) (padded_bytes name (31 - length name) (small_bytes name (name_bytes name named)))
+name_below name named = number_below 31 (name ++ replicate (31 - length name) 0)
+    (padded_bytes name (31 - length name) (small_bytes name (name_bytes name named)))
 
-padded_test : (size : ℕ) (name : List ℕ) (n : ℕ) → length name ≡ size → IsTrue (is_name name) → is_padded size (name ++ replicate n 0) ≡ true
+padded_test : (size : ℕ) (name : List ℕ) (n : ℕ) → length name ≡ size → IsTrue (is_name name)
+    → is_padded size (name ++ replicate n 0) ≡ true
 padded_test size name n len named =
     let front : take size (name ++ replicate n 0) ≡ name = take_at name (replicate n 0) size len in
     let back : drop size (name ++ replicate n 0) ≡ replicate n 0 = drop_at name (replicate n 0) size len in
-    and_from (is_name (take size (name ++ replicate n 0))) (list_all is_blank (drop size (name ++ replicate n 0))) (ap is_name front ∙ named) (ap (list_all is_blank) back ∙ blanks n)
+    and_from (is_name (take size (name ++ replicate n 0))) (list_all is_blank (drop size (name ++ replicate n 0))) (ap is_name front
+    ∙ named) (ap (list_all is_blank) back ∙ blanks n)
 
 -- the name's field meets its rule
 pub name_meets : (name : List ℕ) → IsTrue (is_name name) → is_padded (length name) (number_bytes 31 (name_number name)) ≡ true
@@ -81,7 +91,9 @@ name_back name named = ap (take (length name)) (name_padded name named) ∙ take
 -- ---- reading
 
 -- the bytes at the front are those that a name's field spells
-pub padded_spelled : (front name blank : List ℕ) → length front ≡ 31 → front ≡ name ++ blank → IsTrue (is_name name) → list_all is_blank blank ≡ true → number_bytes 31 (name_number name) ≡ front
+pub padded_spelled : (front name blank : List ℕ) → length front ≡ 31 → front ≡ name ++ blank → IsTrue (is_name name)
+    → list_all is_blank blank ≡ true → number_bytes 31 (name_number name) ≡ front
 padded_spelled front name blank long is named clear =
     let left : length blank ≡ 31 - length name = omega (arith, long, ap length is, length-append name blank) in
-    name_padded name named ∙ ap (λ (n : ℕ). name ++ replicate n 0) (sym left) ∙ ap (λ (xs : List ℕ). name ++ xs) (sym (blanks_are blank clear)) ∙ sym is
+    name_padded name named ∙ ap (λ (n : ℕ). name ++ replicate n 0) (sym left)
+    ∙ ap (λ (xs : List ℕ). name ++ xs) (sym (blanks_are blank clear)) ∙ sym is

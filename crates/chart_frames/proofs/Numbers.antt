@@ -1,5 +1,6 @@
 -- Numbers of so many bytes: what was written is read again, and what is read was written so.
-use Rattle.std.proofs.Common.{◌≡◌, ℕ, zero, suc, ◌+◌, ◌-◌, ◌*◌, ◌/◌, ◌%◌, ◌^◌, ◌<◌, ◌≤◌, List, [], ◌∷◌, ◌++◌, length, get_or, take, drop, refl, sym, ap, ◌∙◌, arith, length-drop}
+use Rattle.std.proofs.Common.{◌≡◌, ℕ, zero, suc, ◌+◌, ◌-◌, ◌*◌, ◌/◌, ◌%◌, ◌^◌, ◌<◌, ◌≤◌, List, [], ◌∷◌, ◌++◌, length, get_or, take, drop}
+use Rattle.std.proofs.Common.{refl, sym, ap, ◌∙◌, arith, length-drop}
 use Rattle.std.proofs.Math.Nat.{mul_assoc, mul-add-div_right, mul-add-mod_self_right, mod-eq_of_lt, pow-succ', one-le-pow, div-one}
 use Rattle.std.proofs.Math.Seq.{take-length}
 use Rattle.std.proofs.lemmas.Nat.{div-mul-add}
@@ -24,8 +25,10 @@ pow_positive n = let h = one-le-pow n 256 (omega arith) in omega arith
 high_first-onto : (n a r : ℕ) → bytes_high_first n (a * 256 ^ n + r) ≡ bytes_high_first n r
 high_first-onto zero a r = refl
 high_first-onto (suc n) a r =
-    let wider : a * 256 ^ suc n + r ≡ a * 256 * 256 ^ n + r = ap (λ (p : ℕ). p + r) (ap (λ (p : ℕ). a * p) (pow-succ' 256 n) ∙ sym (mul_assoc a 256 (256 ^ n))) in
-    let tail : bytes_high_first n (a * 256 ^ suc n + r) ≡ bytes_high_first n r = ap (bytes_high_first n) wider ∙ high_first-onto n (a * 256) r in
+    let wider : a * 256 ^ suc n + r ≡ a * 256 * 256 ^ n + r = ap (λ (p : ℕ). p + r) (ap (λ (p : ℕ). a * p) (pow-succ' 256 n)
+    ∙ sym (mul_assoc a 256 (256 ^ n))) in
+    let tail : bytes_high_first n (a * 256 ^ suc n + r) ≡ bytes_high_first n r = ap (bytes_high_first n) wider
+    ∙ high_first-onto n (a * 256) r in
     let quotient : (a * 256 * 256 ^ n + r) / 256 ^ n ≡ a * 256 + r / 256 ^ n = mul-add-div_right (pow_positive n) (a * 256) r in
     let head : byte_at n (a * 256 ^ suc n + r) ≡ byte_at n r =
     byte_at-pow n (a * 256 ^ suc n + r) ∙ ap (λ (p : ℕ). p / 256 ^ n % 256) wider ∙ ap (λ (p : ℕ). p % 256) quotient
@@ -43,8 +46,10 @@ number_back (suc n) (x ∷ xs) fits long =
     let whole : big_from 0 (suc n) (x ∷ xs) ≡ x * 256 ^ n + low = ap (λ (p : ℕ). x * 256 ^ n + p) (big_from-cons 0 n x xs) in
     let head : byte_at n (x * 256 ^ n + low) ≡ x =
     byte_at-pow n (x * 256 ^ n + low) ∙ ap (λ (p : ℕ). p % 256) (div-mul-add x (256 ^ n) low below) ∙ mod-eq_of_lt byte in
-    let tail : bytes_high_first n (x * 256 ^ n + low) ≡ take n xs = high_first-onto n x low ∙ number_back n xs (λ i. fits (suc i)) (omega arith) in
-    ap (bytes_high_first (suc n)) whole ∙ (ap (λ (p : ℕ). p ∷ bytes_high_first n (x * 256 ^ n + low)) head ∙ ap (λ (p : List ℕ). x ∷ p) tail)
+    let tail : bytes_high_first n (x * 256 ^ n + low) ≡ take n xs = high_first-onto n x low
+    ∙ number_back n xs (λ i. fits (suc i)) (omega arith) in
+    ap (bytes_high_first (suc n)) whole ∙ (ap (λ (p : ℕ). p ∷ bytes_high_first n (x * 256 ^ n + low)) head
+    ∙ ap (λ (p : List ℕ). x ∷ p) tail)
 
 pub length-number_bytes : (size n : ℕ) → length (number_bytes size n) ≡ size
 unfolding number_bytes
@@ -66,7 +71,8 @@ unfolding number_in
 number_stays size bytes more long = big_from-append size bytes more long
 
 -- what is read is spelled so
-pub number_spelled : (size : ℕ) (bytes : List ℕ) → IsBytes bytes → size ≤ length bytes → bytes ≡ number_bytes size (number_in size bytes) ++ drop size bytes
+pub number_spelled : (size : ℕ) (bytes : List ℕ) → IsBytes bytes → size ≤ length bytes
+    → bytes ≡ number_bytes size (number_in size bytes) ++ drop size bytes
 unfolding number_bytes number_in
 number_spelled size bytes fits long =
     sym (take-append-drop size bytes) ∙ ap (λ (p : List ℕ). p ++ drop size bytes) (sym (number_back size bytes fits long))
@@ -74,17 +80,22 @@ number_spelled size bytes fits long =
 -- the bytes of the number that some bytes spell are these bytes
 pub number_bytes_in : (size : ℕ) (bytes : List ℕ) → IsBytes bytes → size ≡ length bytes → number_bytes size (number_in size bytes) ≡ bytes
 unfolding number_bytes number_in
-number_bytes_in size bytes fits whole = number_back size bytes fits (omega (arith, whole)) ∙ ap (λ (p : ℕ). take p bytes) whole ∙ take-length bytes
+number_bytes_in size bytes fits whole = number_back size bytes fits (omega (arith, whole)) ∙ ap (λ (p : ℕ). take p bytes) whole
+    ∙ take-length bytes
 
 -- those of the first so many bytes are these
-pub number_bytes_at : (size : ℕ) (bytes : List ℕ) → IsBytes bytes → size ≤ length bytes → number_bytes size (number_in size bytes) ≡ take size bytes
+pub number_bytes_at : (size : ℕ) (bytes : List ℕ) → IsBytes bytes → size ≤ length bytes
+    → number_bytes size (number_in size bytes) ≡ take size bytes
 unfolding number_bytes number_in
 number_bytes_at size bytes fits long = number_back size bytes fits long
 
 take_whole : (k : ℕ) (l : List ℕ) → k ≡ length l → take k l ≡ l
 take_whole k l e = ap (λ (p : ℕ). take p l) e ∙ take-length l
 
-pub number_taken : (size : ℕ) (bytes : List ℕ) (n : ℕ) → IsBytes bytes → size ≤ length bytes → n ≡ number_in size bytes → bytes ≡ number_bytes size n ++ take (length bytes - size) (drop size bytes)
+pub number_taken : (size : ℕ) (bytes : List ℕ) (n : ℕ) → IsBytes bytes → size ≤ length bytes → n ≡ number_in size bytes
+    → bytes ≡ number_bytes size n ++ take (length bytes - size) (drop size bytes)
 number_taken size bytes n fits long is =
-    let rest : take (length bytes - size) (drop size bytes) ≡ drop size bytes = take_whole (length bytes - size) (drop size bytes) (sym (length-drop size bytes)) in
-    number_spelled size bytes fits long ∙ ap (λ (p : ℕ). number_bytes size p ++ drop size bytes) (sym is) ∙ ap (λ (p : List ℕ). number_bytes size n ++ p) (sym rest)
+    let rest : take (length bytes - size) (drop size bytes) ≡ drop size bytes = take_whole (length bytes - size) (drop size bytes)
+    (sym (length-drop size bytes)) in
+    number_spelled size bytes fits long ∙ ap (λ (p : ℕ). number_bytes size p ++ drop size bytes) (sym is)
+    ∙ ap (λ (p : List ℕ). number_bytes size n ++ p) (sym rest)

@@ -1,5 +1,6 @@
 -- The order of coefficients and of rows.
-use Rattle.std.proofs.Common.{◌≡◌, ℕ, ◌+◌, ◌-◌, ◌*◌, ◌/◌, ◌%◌, ◌^◌, ◌<◌, ◌≤◌, ◌⊎◌, inl, inr, true, false, ◌&&◌, ◌||◌, cond, ltb, leb, eqb, List, [], ◌∷◌, ◌++◌, length, get_or, Option, Some, sym, ap, ◌∙◌, subst, arith}
+use Rattle.std.proofs.Common.{◌≡◌, ℕ, ◌+◌, ◌-◌, ◌*◌, ◌/◌, ◌%◌, ◌^◌, ◌<◌, ◌≤◌, ◌⊎◌, inl, inr, true, false, ◌&&◌, ◌||◌, cond, ltb, leb, eqb}
+use Rattle.std.proofs.Common.{List, [], ◌∷◌, ◌++◌, length, get_or, Option, Some, sym, ap, ◌∙◌, subst, arith}
 use Rattle.std.specs.Prelude.{All, AllPairs, slice_get, option_map}
 use Rattle.std.specs.Bool.{IsTrue}
 use Rattle.std.proofs.Math.Nat.{pow-le-pow_right, mul-add-mod_self_right, mod-eq_of_lt}
@@ -56,12 +57,14 @@ follows_cases a b c d h =
       | inr same ↦ let both = and_parts (eqb a b) (ltb c d) same in inr (eqb-true a b both.0, ltb-true c d both.1)
     ]
 
-precedes_from : (a b : Key × Coef) (la lb ia ib : ℕ) → la ≡ a.0.level → lb ≡ b.0.level → ia ≡ a.0.index → ib ≡ b.0.index → (lb < la) ⊎ ((lb ≡ la) × (ia < ib)) → Precedes a b
+precedes_from : (a b : Key × Coef) (la lb ia ib : ℕ) → la ≡ a.0.level → lb ≡ b.0.level → ia ≡ a.0.index → ib ≡ b.0.index
+    → (lb < la) ⊎ ((lb ≡ la) × (ia < ib)) → Precedes a b
 precedes_from a b la lb ia ib e f g h (inl lower) = inl (omega (arith, lower, e, f))
 precedes_from a b la lb ia ib e f g h (inr same) = inr (cc (same.0), omega (arith, same.1, g, h))
 
 -- what the numbers say of the keys
-pub follows-precedes : (slots : ℕ) (a b : Key × Coef) → FitsCoef slots a → FitsCoef slots b → IsTrue (follows (Some (key_number a.0)) (key_number b.0)) → Precedes a b
+pub follows-precedes : (slots : ℕ) (a b : Key × Coef) → FitsCoef slots a → FitsCoef slots b
+    → IsTrue (follows (Some (key_number a.0)) (key_number b.0)) → Precedes a b
 follows-precedes slots a b p q h =
     let below_a = index_bound slots a.0 p.key in
     let below_b = index_bound slots b.0 q.key in
@@ -79,7 +82,8 @@ precedes_trans a b c (inr p) (inr q) = inr (omega (arith, p.0, q.0), omega (arit
 abbrev last_or : {X : Type 0} → List X → X → X
 last_or xs d = get_or xs (length xs - 1) d
 
-last_is : {X : Type 0} (f : X → ℕ) (xs : List X) (d : X) → 0 < length xs → option_map f (slice_get xs (length xs - 1)) ≡ Some (f (last_or xs d))
+last_is : {X : Type 0} (f : X → ℕ) (xs : List X) (d : X) → 0 < length xs
+    → option_map f (slice_get xs (length xs - 1)) ≡ Some (f (last_or xs d))
 last_is f xs d some = ap (option_map f) (slice_get-get_or xs (length xs - 1) d (omega arith))
 
 -- each element comes before one that the last one comes before
@@ -94,7 +98,8 @@ before_last {X} R xs y trans order last k d below =
     ]
 
 -- one coefficient more
-pub FitCoefs-push : (slots : ℕ) (xs : List (Key × Coef)) (e : Key × Coef) → FitCoefs slots xs → FitsCoef slots e → IsTrue (follows (last_key xs) (key_number e.0)) → FitCoefs slots (xs ++ e ∷ [])
+pub FitCoefs-push : (slots : ℕ) (xs : List (Key × Coef)) (e : Key × Coef) → FitCoefs slots xs → FitsCoef slots e
+    → IsTrue (follows (last_key xs) (key_number e.0)) → FitCoefs slots (xs ++ e ∷ [])
 FitCoefs-push slots xs e fit fits h = record {
   each = All-push (FitsCoef slots) xs e fit.each fits;
   order = all_pairs_push Precedes xs e fit.order (before_last Precedes xs e precedes_trans fit.order
@@ -106,11 +111,14 @@ rows_trans : (a b c : Row) → a.column < b.column → b.column < c.column → a
 rows_trans a b c p q = omega (arith, p, q)
 
 -- one row more
-pub FitRows-push : (w : ℕ) (xs : List Row) (r : Row) → FitRows w xs → FitsRow w r → IsTrue (rises (last_column xs) r.column) → FitRows w (xs ++ r ∷ [])
+pub FitRows-push : (w : ℕ) (xs : List Row) (r : Row) → FitRows w xs → FitsRow w r → IsTrue (rises (last_column xs) r.column)
+    → FitRows w (xs ++ r ∷ [])
 FitRows-push w xs r fit fits h = record {
   each = All-push (FitsRow w) xs r fit.each fits;
-  order = all_pairs_push (λ (a b : Row). a.column < b.column) xs r fit.order (before_last (λ (a b : Row). a.column < b.column) xs r rows_trans fit.order
-      (λ d some. ltb-true (last_or xs d).column r.column (ap (λ (o : Option ℕ). rises o r.column) (sym (last_is (λ (a : Row). a.column) xs d some)) ∙ h)));
+  order = all_pairs_push (λ (a b : Row). a.column < b.column) xs r fit.order
+      (before_last (λ (a b : Row). a.column < b.column) xs r rows_trans fit.order
+      (λ d some. ltb-true (last_or xs d).column r.column
+      (ap (λ (o : Option ℕ). rises o r.column) (sym (last_is (λ (a : Row). a.column) xs d some)) ∙ h)));
 }
 
 -- the indices of keys fit their part of the keys' numbers

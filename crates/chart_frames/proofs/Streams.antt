@@ -1,5 +1,6 @@
 -- Streams: what stands at the front of some bytes is one of three things.
-use Rattle.std.proofs.Common.{◌≡◌, ℕ, ◌+◌, ◌-◌, ◌≤◌, inl, inr, List, ◌++◌, length, drop, Option, Some, None, Result, Ok, Err, refl, sym, ap, ◌∙◌, subst, arith, length-append}
+use Rattle.std.proofs.Common.{◌≡◌, ℕ, ◌+◌, ◌-◌, ◌≤◌, inl, inr, List, ◌++◌, length, drop, Option, Some, None, Result, Ok, Err, refl, sym, ap}
+use Rattle.std.proofs.Common.{◌∙◌, subst, arith, length-append}
 use Rattle.std.proofs.lemmas.List.{drop_at, drop-drop}
 use Rattle.chart_frames.specs.declared.fields.Stop.{Stop}
 use Rattle.chart_frames.specs.declared.fields.Stop.TheVariants.{More, Bad}
@@ -104,7 +105,8 @@ only_bad held (Err (faults.BadFrame at)) new h within b =
 only_bad held (Err faults.NoMemory) new h within b = tt
 
 -- where more bytes are needed, that is answered
-pub only_more : (held : Pending) (r : Result (Option Frame) FrameFault) (new : Pending) → Answers held r new → IsPartial held → IsOnly r (Ok None)
+pub only_more : (held : Pending) (r : Result (Option Frame) FrameFault) (new : Pending) → Answers held r new → IsPartial held
+    → IsOnly r (Ok None)
 only_more held (Ok (Some g)) new h partial = absurd (not_partial held g new.rest h.fits h.front partial)
 only_more held (Ok None) new h partial = refl
 only_more held (Err (faults.BadFrame at)) new h partial = absurd (partial.good h.0.0 h.0.2)
@@ -114,7 +116,8 @@ only_more held (Err faults.NoMemory) new h partial = tt
 
 -- reading ended for this cause
 pub stopped : (e : ItemStop) (s t : Stop) (r : Result (List ℕ) Stop) → e ≡ stops.Stop s → s ≡ t → Fails e r → r ≡ Err t
-stopped e s t r p q h = let P : ItemStop → Type 0 = λ d. Fails d r in let found : r ≡ Err s = subst P p h in found ∙ ap (λ (k : Stop). Err k) q
+stopped e s t r p q h = let P : ItemStop → Type 0 = λ d. Fails d r in let found : r ≡ Err s = subst P p h in
+    found ∙ ap (λ (k : Stop). Err k) q
 
 leaves_front : (bytes : List ℕ) (f : Frame) (left : ℕ) (h : Leaves bytes f left) → bytes ≡ spelling f ++ h.rest
 leaves_front bytes f left h = h.begins ∙ sym (spelled f h.rest h.fits)
@@ -128,7 +131,8 @@ pub takes_of : (given : ℕ) (bytes : List ℕ) (f : Frame) (left : ℕ) → Lea
 takes_of given bytes f left h =
     let front = leaves_front bytes f left h in
     let taken : length (spelling f) ≡ length bytes - left = omega (arith, ap length front, length-append (spelling f) h.rest, h.left_is) in
-    let rest : drop (length bytes - left) bytes ≡ h.rest = ap (drop (length bytes - left)) front ∙ drop_at (spelling f) h.rest (length bytes - left) taken in
+    let rest : drop (length bytes - left) bytes ≡ h.rest = ap (drop (length bytes - left)) front
+    ∙ drop_at (spelling f) h.rest (length bytes - left) taken in
     record {
       fits = h.fits;
       front = front ∙ ap (λ (p : List ℕ). spelling f ++ p) (sym rest);
@@ -139,7 +143,8 @@ takes_of given bytes f left h =
 pub nothing_taken : (given : ℕ) (bytes : List ℕ) → held (given + 0) (drop 0 bytes) ≡ held given bytes
 nothing_taken given bytes = let e : given + 0 ≡ given = omega arith in ap (λ (n : ℕ). held n bytes) e
 
-pub more_of : (given : ℕ) (bytes : List ℕ) → read frame_fields bytes ≡ Err More → Answers (held given bytes) (Ok None) (held (given + 0) (drop 0 bytes))
+pub more_of : (given : ℕ) (bytes : List ℕ) → read frame_fields bytes ≡ Err More
+    → Answers (held given bytes) (Ok None) (held (given + 0) (drop 0 bytes))
 more_of given bytes e = (more_partial (held given bytes) e, nothing_taken given bytes)
 
 pub bad_within : (bytes : List ℕ) (left : ℕ) → IsBytes bytes → read frame_fields bytes ≡ Err (Bad left) → left ≤ length bytes
@@ -158,8 +163,10 @@ pub dropped : (start taken : ℕ) (bytes : List ℕ) → drop taken (drop start 
 dropped start taken bytes = drop-drop taken start bytes
 
 -- the bytes held stand at the end of all that are kept
-pub answers_behind : (given start taken : ℕ) (bytes rest : List ℕ) (now : Pending) (r : Result (Option Frame) FrameFault) → held given (drop start bytes) ≡ now → rest ≡ drop start bytes
-    → Answers (held given rest) r (held (given + taken) (drop taken rest)) → Answers now r (held (given + taken) (drop (start + taken) bytes))
+pub answers_behind : (given start taken : ℕ) (bytes rest : List ℕ) (now : Pending) (r : Result (Option Frame) FrameFault)
+    → held given (drop start bytes) ≡ now → rest ≡ drop start bytes
+    → Answers (held given rest) r (held (given + taken) (drop taken rest))
+    → Answers now r (held (given + taken) (drop (start + taken) bytes))
 answers_behind given start taken bytes rest now r view is h =
     let behind : drop taken rest ≡ drop (start + taken) bytes = ap (drop taken) is ∙ dropped start taken bytes in
     let P : Pending → Type 0 = λ p. Answers p r (held (given + taken) (drop (start + taken) bytes)) in

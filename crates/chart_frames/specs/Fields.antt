@@ -1,12 +1,14 @@
 -- The frames, field by field: sizes in bytes, rules, and what decides on what follows.
-use Rattle.std.specs.Prelude.{ℕ, zero, suc, ℤ, ◌+◌, ◌-◌, ◌*◌, ◌/◌, ◌%◌, ◌^◌, ◌==◌, Bool, true, false, ◌&&◌, ◌||◌, nat_lt, nat_le, int_lt, int_le, unsigned_abs, if◌then◌else◌, Option, None, Some, List, take, drop}
+use Rattle.std.specs.Prelude.{ℕ, zero, suc, ℤ, ◌+◌, ◌-◌, ◌*◌, ◌/◌, ◌%◌, ◌^◌, ◌==◌, Bool, true, false, ◌&&◌, ◌||◌, nat_lt, nat_le, int_lt}
+use Rattle.std.specs.Prelude.{int_le, unsigned_abs, if◌then◌else◌, Option, None, Some, List, take, drop}
 use Rattle.std.specs.List.{list_all}
 use Rattle.std.specs.Int.{w64, cast_signed}
 use Rattle.whole_number.specs.Range.{is_time, is_value}
 use Rattle.whole_number.specs.SlotTimes.{ends_in_time}
 use Rattle.om3_coeff.specs.Keys.{height}
 use Rattle.series_book.specs.Names.{is_name}
-use Rattle.series_book.specs.declared.refusal_numbers.TheConstants.{BAD_FILTER, BAD_LINE, FULL, LIVE_TOO_LARGE, SUM_TOO_LARGE, VIEW_TOO_LARGE}
+use Rattle.series_book.specs.declared.refusal_numbers.TheConstants.{BAD_FILTER, BAD_LINE, FULL, LIVE_TOO_LARGE, SUM_TOO_LARGE}
+use Rattle.series_book.specs.declared.refusal_numbers.TheConstants.{VIEW_TOO_LARGE}
 use Rattle.chart_frames.specs.declared.limits.TheConstants.{MOST_SLOTS}
 use Rattle.chart_frames.specs.Format.{Format, stop, field, number_bytes}
 
@@ -44,7 +46,8 @@ is_report_length length = length == 8 || (is_catalog_length length || is_values_
 -- the length is possible for some kind
 abbrev pub is_length : ℕ → Bool
 is_length length =
-    length == 5 || (length == 6 || (length == 9 || (length == 18 || (is_view_length length || (is_rows_length length || is_report_length length)))))
+    length == 5 || (length == 6 || (length == 9 || (length == 18 || (is_view_length
+    length || (is_rows_length length || is_report_length length)))))
 
 -- the kind admits the length
 unfoldable pub admits : ℕ → ℕ → Bool

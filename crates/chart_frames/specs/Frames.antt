@@ -1,5 +1,6 @@
 -- Frames: the numbers of their fields, their one spelling, and the rules that their fields meet.
-use Rattle.std.specs.Prelude.{ℕ, ℤ, pos, ◌≡◌, ◌+◌, ◌-◌, ◌*◌, ◌^◌, ◌<◌, ◌≤◌, ◌≤ℤ◌, ◌<ℤ◌, ◌⊎◌, Bool, false, ◌&&◌, ◌||◌, IsTrue, List, [], ◌∷◌, ◌++◌, length, replicate, All, AllPairs, if◌then◌else◌}
+use Rattle.std.specs.Prelude.{ℕ, ℤ, pos, ◌≡◌, ◌+◌, ◌-◌, ◌*◌, ◌^◌, ◌<◌, ◌≤◌, ◌≤ℤ◌, ◌<ℤ◌, ◌⊎◌, Bool, false, ◌&&◌, ◌||◌, IsTrue, List, [], ◌∷◌}
+use Rattle.std.specs.Prelude.{◌++◌, length, replicate, All, AllPairs, if◌then◌else◌}
 use Rattle.std.specs.Int.{w64, cast_unsigned}
 use Rattle.om3_coeff.specs.declared.key.Key.{Key}
 use Rattle.om3_coeff.specs.declared.coef.Coef.{Coef}
@@ -68,7 +69,8 @@ name_number name = number_in 31 (name ++ replicate (31 - length name) 0)
 
 abbrev pub listed_numbers : ListedSeries → List ℕ → List ℕ
 listed_numbers s tail =
-    length s.name ∷ (name_number s.name ∷ (s.scale ∷ (unsigned s.start ∷ (s.step ∷ (s.slots ∷ (s.has ∷ (unsigned s.rmin ∷ (unsigned s.rmax ∷ tail))))))))
+    length s.name ∷ (name_number s.name ∷ (s.scale ∷ (unsigned
+    s.start ∷ (s.step ∷ (s.slots ∷ (s.has ∷ (unsigned s.rmin ∷ (unsigned s.rmax ∷ tail))))))))
 
 abbrev pub series_numbers : List ListedSeries → List ℕ
 series_numbers [] = []
@@ -265,7 +267,8 @@ pub record FitsRun (from limit left : ℕ) (r : Run) : Type 0 where
 -- more than 4,096 slots behind the first slot of another one.
 abbrev pub FitRuns : ℕ → ℕ → ℕ → List Run → Type 0
 FitRuns from limit left [] = left ≡ 0
-FitRuns from limit left (r ∷ rs) = FitsRun from limit left r × FitRuns (r.first + r.count + 1) (lesser limit (r.first + 4096)) (left - r.count) rs
+FitRuns from limit left (r ∷ rs) = FitsRun from limit left r
+    × FitRuns (r.first + r.count + 1) (lesser limit (r.first + 4096)) (left - r.count) rs
 
 -- the time from which to ask on is 0 where no value is left
 pub record FitsValues (v : ValuesFrame) : Type 0 where

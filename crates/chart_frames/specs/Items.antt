@@ -27,9 +27,11 @@ last_column rows = option_map (λ r. r.column) (slice_get rows (length rows - 1)
 -- behind the coefficients that were read, reading one of count ends for this cause
 abbrev pub FailsInCoefs : ℕ → ℕ → ItemStop → List (Key × Coef) → List (Key × Coef) → List ℕ → Type 0
 FailsInCoefs slots count e old new bytes =
-    (tail : List ℕ) × (coefs_before new tail ≡ coefs_before old bytes) × Fails e (read (coefs_fields slots (last_key new) (count - length new)) tail)
+    (tail : List ℕ) × (coefs_before new tail ≡ coefs_before old bytes)
+    × Fails e (read (coefs_fields slots (last_key new) (count - length new)) tail)
 
 -- behind the rows that were read, reading one of count ends for this cause
 abbrev pub FailsInRows : ℕ → ℕ → ItemStop → List Row → List Row → List ℕ → Type 0
 FailsInRows w count e old new bytes =
-    (tail : List ℕ) × (rows_all_before new tail ≡ rows_all_before old bytes) × Fails e (read (rows_fields w (last_column new) (count - length new)) tail)
+    (tail : List ℕ) × (rows_all_before new tail ≡ rows_all_before old bytes)
+    × Fails e (read (rows_fields w (last_column new) (count - length new)) tail)

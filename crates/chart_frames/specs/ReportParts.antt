@@ -32,7 +32,11 @@ pub record PushesListed (old new : List ListedSeries) (bytes rest : List ℕ) : 
 
 -- where the next run may stand, and how many values are left, behind a run
 abbrev pub room_behind : Room → Run → Room
-room_behind room run = record { from = run.first + run.count + 1; limit = lesser room.limit (run.first + 4096); left = room.left - run.count }
+room_behind room run = record {
+  from = run.first + run.count + 1;
+  limit = lesser room.limit (run.first + 4096);
+  left = room.left - run.count;
+}
 
 abbrev pub runs_in : Room → ℕ → Format → Format
 runs_in room count next = runs_fields room.from room.limit room.left count next

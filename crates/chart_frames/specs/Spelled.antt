@@ -72,7 +72,8 @@ name_before name tail = number_bytes 1 (length name) ++ (number_bytes 31 (name_n
 -- what a catalog says of a series behind its name, and what follows
 unfoldable pub facts_before : ℕ → ℤ → ℕ → ℕ → ℕ → ℤ → ℤ → List ℕ → List ℕ
 facts_before scale start step slots has rmin rmax tail =
-    number_bytes 1 scale ++ (signed_bytes start ++ (number_bytes 4 step ++ (number_bytes 8 slots ++ (number_bytes 1 has ++ two_before rmin rmax tail))))
+    number_bytes 1 scale ++ (signed_bytes start ++ (number_bytes 4
+    step ++ (number_bytes 8 slots ++ (number_bytes 1 has ++ two_before rmin rmax tail))))
 
 -- what a catalog says of a series, and what follows
 abbrev pub listed_before : ListedSeries → List ℕ → List ℕ
@@ -109,10 +110,12 @@ counts_before runs values tail = number_bytes 2 runs ++ (number_bytes 2 values +
 
 -- a report, and what follows
 abbrev pub report_before : Report → List ℕ → List ℕ
-report_before (Catalog c) tail = framed (11 + 70 * length c.series) 8 (catalog_before c.total c.used (length c.series) (series_before c.series tail))
+report_before (Catalog c) tail = framed (11 + 70 * length c.series) 8
+    (catalog_before c.total c.used (length c.series) (series_before c.series tail))
 report_before (Values v) tail =
     framed (16 + (16 * length v.runs + 8 * length v.values)) 9
-    (asked_before v.series (number_of_flag v.more) v.next (counts_before (length v.runs) (length v.values) (runs_before v.runs (values_before v.values tail))))
+    (asked_before v.series (number_of_flag v.more) v.next
+    (counts_before (length v.runs) (length v.values) (runs_before v.runs (values_before v.values tail))))
 report_before (Swept clears used more) tail =
     framed 8 10 (number_bytes 2 clears ++ (number_bytes 4 used ++ (number_bytes 1 (number_of_flag more) ++ tail)))
 

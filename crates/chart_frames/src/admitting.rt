@@ -1,6 +1,7 @@
 // The lengths that frames may have.
 ghost use Rattle.std.specs.Prelude.{◌≡◌};
-ghost use Rattle.chart_frames.specs.Fields.{is_view_length, is_rows_length, is_catalog_length, is_values_length, is_report_length, is_length, admits};
+ghost use Rattle.chart_frames.specs.Fields.{is_view_length, is_rows_length, is_catalog_length, is_values_length, is_report_length};
+ghost use Rattle.chart_frames.specs.Fields.{is_length, admits};
 
 use crate::limits::{
     CATALOG_LENGTH, EIGHT_LENGTH, LISTED_BYTES, LIVE_LENGTH, MOST_COEFS, MOST_ROWS,

@@ -4,7 +4,8 @@ ghost use Rattle.std.specs.List.{list_all};
 ghost use Rattle.series_book.specs.Names.{is_name};
 ghost use Rattle.chart_frames.specs.Format.{Format, number_bytes};
 ghost use Rattle.chart_frames.specs.Reading.{Reads, read};
-ghost use Rattle.chart_frames.specs.Fields.{is_blank, is_padded, is_catalog_length, word_field, padded_field, name_fields, scale_field, facts_fields, listed_fields, series_list, listed_count_fields, pages_fields, catalog_fields};
+ghost use Rattle.chart_frames.specs.Fields.{is_blank, is_padded, is_catalog_length, word_field, padded_field, name_fields, scale_field};
+ghost use Rattle.chart_frames.specs.Fields.{facts_fields, listed_fields, series_list, listed_count_fields, pages_fields, catalog_fields};
 ghost use Rattle.chart_frames.specs.Frames.{name_number, Fits, FitFacts, FitsListed};
 ghost use Rattle.chart_frames.specs.Spelled.{framed, name_before, facts_before, listed_before, series_before, catalog_before, frame_before};
 ghost use Rattle.chart_frames.specs.Items.{Fails};
@@ -49,7 +50,8 @@ fn is_padded(size: u8, front: &[u8]) -> bool
 fn padded_at(size: u8, bytes: &[u8]) -> Result<(&[u8], &[u8]), Stop>
     requires { size ≤ 31 }
     ensures reads { (next : Format) → Reads result (read (padded_field size next) bytes.now) (λ x. read next x.1.now) }
-    ensures takes { IfOk result (λ x. IsTrue (is_name x.0.now) × (length x.0.now ≡ size) × (bytes.now ≡ number_bytes 31 (name_number x.0.now) ++ x.1.now)) }
+    ensures takes { IfOk result (λ x. IsTrue (is_name x.0.now) × (length x.0.now ≡ size)
+        × (bytes.now ≡ number_bytes 31 (name_number x.0.now) ++ x.1.now)) }
 {
     if bytes.len() < NAME_BYTES {
         return Err(Stop::More);
@@ -98,8 +100,10 @@ pub struct Facts {
 #[tactic(auto, unfolding(crate::specs::Fields::facts_fields, crate::specs::Spelled::facts_before))]
 fn facts_at(bytes: &[u8]) -> Result<(Facts, &[u8]), Stop>
     ensures reads { (next : Format) → Reads result (read (facts_fields next) bytes.now) (λ x. read next x.1.now) }
-    ensures fits { IfOk result (λ x. FitFacts x.0.scale x.0.axis.start x.0.axis.step x.0.axis.slots x.0.stored.has x.0.stored.rmin x.0.stored.rmax) }
-    ensures takes { IfOk result (λ x. bytes.now ≡ facts_before x.0.scale x.0.axis.start x.0.axis.step x.0.axis.slots x.0.stored.has x.0.stored.rmin x.0.stored.rmax x.1.now) }
+    ensures fits { IfOk result (λ x. FitFacts x.0.scale x.0.axis.start x.0.axis.step x.0.axis.slots x.0.stored.has x.0.stored.rmin
+        x.0.stored.rmax) }
+    ensures takes { IfOk result (λ x. bytes.now ≡ facts_before x.0.scale x.0.axis.start x.0.axis.step x.0.axis.slots x.0.stored.has
+        x.0.stored.rmin x.0.stored.rmax x.1.now) }
 {
     let (scale, rest) = scale_at(bytes)?;
     let (axis, rest) = axis_at(rest)?;
@@ -116,7 +120,16 @@ fn facts_at(bytes: &[u8]) -> Result<(Facts, &[u8]), Stop>
 
 // The series of this name.
 fn listed_of(name: Name, facts: Facts) -> ListedSeries
-    ensures { result ≡ record { name = name; scale = facts.scale; start = facts.axis.start; step = facts.axis.step; slots = facts.axis.slots; has = facts.stored.has; rmin = facts.stored.rmin; rmax = facts.stored.rmax } }
+    ensures { result ≡ record {
+      name = name;
+      scale = facts.scale;
+      start = facts.axis.start;
+      step = facts.axis.step;
+      slots = facts.axis.slots;
+      has = facts.stored.has;
+      rmin = facts.stored.rmin;
+      rmax = facts.stored.rmax;
+    } }
 {
     ListedSeries {
         name,
@@ -135,8 +148,11 @@ fn listed_of(name: Name, facts: Facts) -> ListedSeries
 fn told_at(bytes: &[u8]) -> Result<((&[u8], Facts), &[u8]), Stop>
     ensures reads { (next : Format) → Reads result (read (listed_fields next) bytes.now) (λ x. read next x.1.now) }
     ensures named { IfOk result (λ x. IsTrue (is_name x.0.0.now)) }
-    ensures fits { IfOk result (λ x. FitFacts x.0.1.scale x.0.1.axis.start x.0.1.axis.step x.0.1.axis.slots x.0.1.stored.has x.0.1.stored.rmin x.0.1.stored.rmax) }
-    ensures takes { IfOk result (λ x. bytes.now ≡ name_before x.0.0.now (facts_before x.0.1.scale x.0.1.axis.start x.0.1.axis.step x.0.1.axis.slots x.0.1.stored.has x.0.1.stored.rmin x.0.1.stored.rmax x.1.now)) }
+    ensures fits { IfOk result (λ x. FitFacts x.0.1.scale x.0.1.axis.start x.0.1.axis.step x.0.1.axis.slots x.0.1.stored.has
+        x.0.1.stored.rmin x.0.1.stored.rmax) }
+    ensures takes { IfOk result (λ x. bytes.now ≡ name_before x.0.0.now
+        (facts_before x.0.1.scale x.0.1.axis.start x.0.1.axis.step x.0.1.axis.slots x.0.1.stored.has x.0.1.stored.rmin x.0.1.stored.rmax
+        x.1.now)) }
 {
     let (name, rest) = name_at(bytes)?;
     let (facts, rest) = facts_at(rest)?;
@@ -184,7 +200,8 @@ fn fill_series<'a>(
     bytes: &'a [u8],
 ) -> Result<&'a [u8], ItemStop>
     requires { series.old.items ≡ [] }
-    ensures ok { IfOk result (λ rest. (length series.new.items ≡ count) × All FitsListed series.new.items × (bytes.now ≡ series_before series.new.items rest.now)) }
+    ensures ok { IfOk result (λ rest. (length series.new.items ≡ count) × All FitsListed series.new.items
+        × (bytes.now ≡ series_before series.new.items rest.now)) }
     ensures err { IfErr result (λ e. Fails e (read (series_list count) bytes.now)) }
 {
     let mut rest = bytes;

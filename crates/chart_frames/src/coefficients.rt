@@ -1,5 +1,6 @@
 // The coefficients of a view.
-ghost use Rattle.std.specs.Prelude.{◌≡◌, ◌≢◌, ◌<◌, ◌≤◌, ◌+◌, ◌-◌, ◌^◌, ◌++◌, ◌&&◌, ◌||◌, false, true, ℕ, pos, length, All, IsTrue, OnErr, IfOk, IfErr, MatchOption};
+ghost use Rattle.std.specs.Prelude.{◌≡◌, ◌≢◌, ◌<◌, ◌≤◌, ◌+◌, ◌-◌, ◌^◌, ◌++◌, ◌&&◌, ◌||◌, false, true, ℕ, pos, length, All, IsTrue, OnErr};
+ghost use Rattle.std.specs.Prelude.{IfOk, IfErr, MatchOption};
 ghost use Rattle.om3_coeff.specs.Keys.{height, IsNode};
 ghost use Rattle.chart_frames.specs.declared.limits.TheConstants.{MOST_SLOTS};
 ghost use Rattle.chart_frames.specs.Format.{Format, number_bytes};
@@ -32,7 +33,8 @@ fn follows(last: Option<u64>, number: u64) -> bool
 #[tactic(auto, using(std::proofs::lemmas::Nat::one_shl))]
 fn key_of(slots: u64, number: u64) -> Option<Key>
     requires { slots ≤ MOST_SLOTS }
-    ensures { MatchOption result (is_key slots number ≡ false) (λ k. (is_key slots number ≡ true) × IsNode (height slots) k × (key_number k ≡ number)) }
+    ensures { MatchOption result (is_key slots number ≡ false) (λ k. (is_key slots number ≡ true) × IsNode (height slots) k
+        × (key_number k ≡ number)) }
 {
     let height = height(slots);
     let level = number / LEVEL_KEYS;
@@ -50,8 +52,10 @@ fn key_of(slots: u64, number: u64) -> Option<Key>
 #[tactic(auto, unfolding(crate::specs::Fields::key_field))]
 fn key_at(slots: u64, last: Option<u64>, bytes: &[u8]) -> Result<(Key, &[u8]), Stop>
     requires { slots ≤ MOST_SLOTS }
-    ensures reads { (next : ℕ → Format) → Reads result (read (key_field slots last next) bytes.now) (λ x. read (next (key_number x.0)) x.1.now) }
-    ensures takes { IfOk result (λ x. IsNode (height slots) x.0 × IsTrue (follows last (key_number x.0)) × (bytes.now ≡ number_bytes 8 (key_number x.0) ++ x.1.now)) }
+    ensures reads { (next : ℕ → Format) → Reads result (read (key_field slots last next) bytes.now)
+        (λ x. read (next (key_number x.0)) x.1.now) }
+    ensures takes { IfOk result (λ x. IsNode (height slots) x.0 × IsTrue (follows last (key_number x.0))
+        × (bytes.now ≡ number_bytes 8 (key_number x.0) ++ x.1.now)) }
 {
     let (number, rest) = long_at(bytes)?;
     let Some(key) = key_of(slots, number) else {
@@ -115,8 +119,10 @@ fn coef_at(bytes: &[u8]) -> Result<(Coef, &[u8]), Stop>
 #[tactic(auto, unfolding(crate::specs::Spelled::coef_before))]
 fn pair_at(slots: u64, last: Option<u64>, bytes: &[u8]) -> Result<((Key, Coef), &[u8]), Stop>
     requires { slots ≤ MOST_SLOTS }
-    ensures reads { (next : ℕ → Format) → Reads result (read (key_field slots last (λ key. coef_fields (next key))) bytes.now) (λ x. read (next (key_number x.0.0)) x.1.now) }
-    ensures takes { IfOk result (λ x. FitsCoef slots x.0 × IsTrue (follows last (key_number x.0.0)) × (bytes.now ≡ coef_before x.0 x.1.now)) }
+    ensures reads { (next : ℕ → Format) → Reads result (read (key_field slots last (λ key. coef_fields (next key))) bytes.now)
+        (λ x. read (next (key_number x.0.0)) x.1.now) }
+    ensures takes { IfOk result (λ x. FitsCoef slots x.0 × IsTrue (follows last (key_number x.0.0))
+        × (bytes.now ≡ coef_before x.0 x.1.now)) }
 {
     let (key, rest) = key_at(slots, last, bytes)?;
     let (coef, rest) = coef_at(rest)?;
@@ -143,9 +149,11 @@ fn push_coef<'a>(
     requires slots { slots ≤ MOST_SLOTS }
     requires fits { FitCoefs slots coefs.old.items }
     ensures fits { FitCoefs slots coefs.new.items }
-    ensures ok { IfOk result (λ rest. (length coefs.new.items ≡ length coefs.old.items + 1) × (coefs_before coefs.new.items rest.now ≡ coefs_before coefs.old.items bytes.now)) }
+    ensures ok { IfOk result (λ rest. (length coefs.new.items ≡ length coefs.old.items + 1)
+        × (coefs_before coefs.new.items rest.now ≡ coefs_before coefs.old.items bytes.now)) }
     ensures unchanged { OnErr result (coefs.new.items ≡ coefs.old.items) }
-    ensures err { IfErr result (λ e. (next : ℕ → Format) → Fails e (read (key_field slots (last_key coefs.old.items) (λ key. coef_fields (next key))) bytes.now)) }
+    ensures err { IfErr result (λ e. (next : ℕ → Format)
+        → Fails e (read (key_field slots (last_key coefs.old.items) (λ key. coef_fields (next key))) bytes.now)) }
 {
     match pair_at(slots, last_key(coefs), bytes) {
         Ok((pair, rest)) => match coefs.push(pair) {
@@ -168,7 +176,8 @@ pub fn fill_coefs<'a>(
     requires room { length coefs.old.items ≤ count }
     ensures fits { FitCoefs slots coefs.new.items }
     ensures room { length coefs.new.items ≤ count }
-    ensures ok { IfOk result (λ rest. (length coefs.new.items ≡ count) × (coefs_before coefs.new.items rest.now ≡ coefs_before coefs.old.items bytes.now)) }
+    ensures ok { IfOk result (λ rest. (length coefs.new.items ≡ count)
+        × (coefs_before coefs.new.items rest.now ≡ coefs_before coefs.old.items bytes.now)) }
     ensures err { IfErr result (λ e. FailsInCoefs slots count e coefs.old.items coefs.new.items bytes.now) }
 {
     let mut rest = bytes;

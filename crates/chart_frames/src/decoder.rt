@@ -1,4 +1,5 @@
-ghost use Rattle.std.specs.Prelude.{◌≡◌, ◌<◌, ◌≤◌, ◌+◌, ◌-◌, ◌^◌, ◌++◌, [], ℕ, List, length, drop, Option, None, Some, Result, Ok, Err, OnOk, OnErr};
+ghost use Rattle.std.specs.Prelude.{◌≡◌, ◌<◌, ◌≤◌, ◌+◌, ◌-◌, ◌^◌, ◌++◌, [], ℕ, List, length, drop, Option, None, Some, Result, Ok, Err};
+ghost use Rattle.std.specs.Prelude.{OnOk, OnErr};
 ghost use Rattle.chart_frames.specs.Format.{Breaks};
 ghost use Rattle.chart_frames.specs.Fields.{frame_fields};
 ghost use Rattle.chart_frames.specs.Frames.{Fits, spelling};

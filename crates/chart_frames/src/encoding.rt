@@ -3,7 +3,8 @@ ghost use Rattle.om3_coeff.specs.declared.key.Key.{Key};
 ghost use Rattle.om3_coeff.specs.declared.coef.Coef.{Coef};
 ghost use Rattle.chart_frames.specs.Format.{number_bytes};
 ghost use Rattle.chart_frames.specs.Frames.{Fits, FitsView, spelling, flags_of, number_of_flag};
-ghost use Rattle.chart_frames.specs.Spelled.{signed_bytes, two_before, place_before, source_before, view_before, coef_before, coefs_before, row_before, rows_before, rows_all_before, framed, frame_before};
+ghost use Rattle.chart_frames.specs.Spelled.{signed_bytes, two_before, place_before, source_before, view_before, coef_before, coefs_before};
+ghost use Rattle.chart_frames.specs.Spelled.{row_before, rows_before, rows_all_before, framed, frame_before};
 
 use crate::frame::{Frame, RowsFrame, ViewFrame};
 use crate::report_encoding::put_report;
@@ -116,7 +117,8 @@ fn put_coefs(out: &mut Vec<u8>, coefs: &[(Key, Coef)]) -> Result<(), AllocError>
 
 fn put_view(out: &mut Vec<u8>, v: &ViewFrame) -> Result<(), AllocError>
     requires { FitsView v.now }
-    ensures { OnOk result ((tail : List ℕ) → out.new.items ++ tail ≡ out.old.items ++ framed (84 + 25 * v.now.count) 5 (view_before v.now (coefs_before v.now.coefs tail))) }
+    ensures { OnOk result ((tail : List ℕ) → out.new.items ++ tail ≡ out.old.items ++ framed (84 + 25 * v.now.count) 5
+        (view_before v.now (coefs_before v.now.coefs tail))) }
 {
     put_start(out, 84 + 25 * v.count, 5)?;
     put_place(out, v)?;
@@ -154,7 +156,8 @@ fn put_rows_head(out: &mut Vec<u8>, r: &RowsFrame) -> Result<(), AllocError>
 }
 
 fn put_rows(out: &mut Vec<u8>, r: &RowsFrame) -> Result<(), AllocError>
-    ensures { OnOk result ((tail : List ℕ) → out.new.items ++ tail ≡ out.old.items ++ framed (27 + 34 * r.now.count) 6 (rows_before r.now (rows_all_before r.now.rows tail))) }
+    ensures { OnOk result ((tail : List ℕ) → out.new.items ++ tail ≡ out.old.items ++ framed (27 + 34 * r.now.count) 6
+        (rows_before r.now (rows_all_before r.now.rows tail))) }
 {
     put_start(out, 27 + 34 * r.count as u32, 6)?;
     put_rows_head(out, r)?;
@@ -169,7 +172,8 @@ fn put_done(out: &mut Vec<u8>, slots: u64) -> Result<(), AllocError>
 }
 
 fn put_refused(out: &mut Vec<u8>, number: u8, a: u64, b: u64) -> Result<(), AllocError>
-    ensures { OnOk result ((tail : List ℕ) → out.new.items ++ tail ≡ out.old.items ++ framed 18 2 (number_bytes 1 number ++ (number_bytes 8 a ++ (number_bytes 8 b ++ tail)))) }
+    ensures { OnOk result ((tail : List ℕ) → out.new.items ++ tail ≡ out.old.items ++ framed 18 2
+        (number_bytes 1 number ++ (number_bytes 8 a ++ (number_bytes 8 b ++ tail)))) }
 {
     put_start(out, 18, 2)?;
     put_byte(out, number)?;
@@ -178,7 +182,8 @@ fn put_refused(out: &mut Vec<u8>, number: u8, a: u64, b: u64) -> Result<(), Allo
 }
 
 fn put_opened(out: &mut Vec<u8>, session: u32, cache: u32) -> Result<(), AllocError>
-    ensures { OnOk result ((tail : List ℕ) → out.new.items ++ tail ≡ out.old.items ++ framed 9 3 (number_bytes 4 session ++ (number_bytes 4 cache ++ tail))) }
+    ensures { OnOk result ((tail : List ℕ) → out.new.items ++ tail ≡ out.old.items ++ framed 9 3
+        (number_bytes 4 session ++ (number_bytes 4 cache ++ tail))) }
 {
     put_start(out, 9, 3)?;
     put_word(out, session)?;
@@ -193,7 +198,8 @@ fn put_closed(out: &mut Vec<u8>, session: u32) -> Result<(), AllocError>
 }
 
 fn put_live(out: &mut Vec<u8>, session: u32, on: bool) -> Result<(), AllocError>
-    ensures { OnOk result ((tail : List ℕ) → out.new.items ++ tail ≡ out.old.items ++ framed 6 7 (number_bytes 4 session ++ (number_bytes 1 (number_of_flag on) ++ tail))) }
+    ensures { OnOk result ((tail : List ℕ) → out.new.items ++ tail ≡ out.old.items ++ framed 6 7
+        (number_bytes 4 session ++ (number_bytes 1 (number_of_flag on) ++ tail))) }
 {
     put_start(out, 6, 7)?;
     put_word(out, session)?;

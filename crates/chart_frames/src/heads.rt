@@ -3,7 +3,9 @@ ghost use Rattle.std.specs.Prelude.{◌≡◌, ◌<◌, ◌≤◌, ◌≤ℤ◌,
 ghost use Rattle.whole_number.specs.Range.{IsValue, IsTime};
 ghost use Rattle.chart_frames.specs.Format.{Format, number_bytes};
 ghost use Rattle.chart_frames.specs.Reading.{Reads, read};
-ghost use Rattle.chart_frames.specs.Fields.{session_fields, series_fields, side_field, side_fields, window_fields, range_fields, slots_field, axis_fields, has_field, rmin_field, rmax_field, stored_fields, count_fields, row_count_fields, flag_fields};
+ghost use Rattle.chart_frames.specs.Fields.{session_fields, series_fields, side_field, side_fields, window_fields, range_fields};
+ghost use Rattle.chart_frames.specs.Fields.{slots_field, axis_fields, has_field, rmin_field, rmax_field, stored_fields, count_fields};
+ghost use Rattle.chart_frames.specs.Fields.{row_count_fields, flag_fields};
 ghost use Rattle.chart_frames.specs.Frames.{IsSession, IsSide, IsWindow, IsRange, IsAxis, IsStored, number_of_flag};
 ghost use Rattle.whole_number.specs.SlotTimes.{EndsInTime};
 ghost use Rattle.chart_frames.specs.declared.limits.TheConstants.{MOST_SLOTS};
@@ -82,7 +84,8 @@ fn side_at(bytes: &[u8]) -> Result<(u16, &[u8]), Stop>
 #[tactic(auto, unfolding(crate::specs::Fields::side_fields))]
 pub fn sides_at(bytes: &[u8]) -> Result<((u16, u16), &[u8]), Stop>
     ensures reads { (next : ℕ → Format) → Reads result (read (side_fields next) bytes.now) (λ x. read (next x.0.0) x.1.now) }
-    ensures takes { IfOk result (λ x. IsSide x.0.0 × IsSide x.0.1 × (bytes.now ≡ number_bytes 2 x.0.0 ++ (number_bytes 2 x.0.1 ++ x.1.now))) }
+    ensures takes { IfOk result (λ x. IsSide x.0.0 × IsSide x.0.1
+        × (bytes.now ≡ number_bytes 2 x.0.0 ++ (number_bytes 2 x.0.1 ++ x.1.now))) }
 {
     let (w, rest) = side_at(bytes)?;
     let (h, rest) = side_at(rest)?;
@@ -147,7 +150,8 @@ pub struct Axis {
 #[tactic(auto, unfolding(crate::specs::Fields::axis_fields))]
 pub fn axis_at(bytes: &[u8]) -> Result<(Axis, &[u8]), Stop>
     ensures reads { (next : ℕ → Format) → Reads result (read (axis_fields next) bytes.now) (λ x. read (next x.0.slots) x.1.now) }
-    ensures takes { IfOk result (λ x. IsAxis x.0.start x.0.step x.0.slots × (bytes.now ≡ signed_bytes x.0.start ++ (number_bytes 4 x.0.step ++ (number_bytes 8 x.0.slots ++ x.1.now)))) }
+    ensures takes { IfOk result (λ x. IsAxis x.0.start x.0.step x.0.slots
+        × (bytes.now ≡ signed_bytes x.0.start ++ (number_bytes 4 x.0.step ++ (number_bytes 8 x.0.slots ++ x.1.now)))) }
 {
     let (start, rest) = signed_at(bytes)?;
     if !is_value(start) {
@@ -208,7 +212,8 @@ fn rmax_at(has: u8, rmin: i64, bytes: &[u8]) -> Result<(i64, &[u8]), Stop>
 #[tactic(auto, unfolding(crate::specs::Fields::stored_fields))]
 pub fn stored_at(slots: u64, bytes: &[u8]) -> Result<(Stored, &[u8]), Stop>
     ensures reads { (next : Format) → Reads result (read (stored_fields slots next) bytes.now) (λ x. read next x.1.now) }
-    ensures takes { IfOk result (λ x. IsStored slots x.0.has x.0.rmin x.0.rmax × (bytes.now ≡ number_bytes 1 x.0.has ++ two_before x.0.rmin x.0.rmax x.1.now)) }
+    ensures takes { IfOk result (λ x. IsStored slots x.0.has x.0.rmin x.0.rmax
+        × (bytes.now ≡ number_bytes 1 x.0.has ++ two_before x.0.rmin x.0.rmax x.1.now)) }
 {
     let (has, rest) = has_at(slots, bytes)?;
     let (rmin, rest) = rmin_at(has, rest)?;

@@ -26,7 +26,8 @@ pub fn spellings_are_good()
 /// comes to break its own.
 pub fn more_bytes_mend_nothing()
     ensures stays { (bytes more : List ℕ) (at : ℕ) → Breaks frame_fields bytes at → Breaks frame_fields (bytes ++ more) at }
-    ensures first { (bytes more : List ℕ) (at other : ℕ) → Breaks frame_fields bytes at → Breaks frame_fields (bytes ++ more) other → at ≡ other }
+    ensures first { (bytes more : List ℕ) (at other : ℕ) → Breaks frame_fields bytes at → Breaks frame_fields (bytes ++ more) other
+        → at ≡ other }
 {}
 
 /// A frame has at most 4,194,304 bytes behind its length field. Where that field tells more, it breaks

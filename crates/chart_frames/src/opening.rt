@@ -2,7 +2,9 @@
 ghost use Rattle.std.specs.Prelude.{◌≡◌, ◌≢◌, ◌+◌, ◌*◌, ◌++◌, ℕ, Ok, Err, IsTrue, IfOk, IfErr};
 ghost use Rattle.chart_frames.specs.Format.{Format, stop, number_bytes};
 ghost use Rattle.chart_frames.specs.Reading.{Reads, read};
-ghost use Rattle.chart_frames.specs.Fields.{is_view_length, is_length, admits, names_first, names_second, session_fields, done_fields, refused_fields, opened_fields, live_fields, swept_fields, place_fields, source_fields, view_fields, head_fields, kind_fields, length_field, kind_field, frame_fields};
+ghost use Rattle.chart_frames.specs.Fields.{is_view_length, is_length, admits, names_first, names_second, session_fields, done_fields};
+ghost use Rattle.chart_frames.specs.Fields.{refused_fields, opened_fields, live_fields, swept_fields, place_fields, source_fields};
+ghost use Rattle.chart_frames.specs.Fields.{view_fields, head_fields, kind_fields, length_field, kind_field, frame_fields};
 ghost use Rattle.chart_frames.specs.Frames.{Fits, FitsPlace, FitsSource, FitsViewHead, FitsRowsHead};
 ghost use Rattle.chart_frames.specs.Spelled.{framed, frame_before, view_before, rows_before, two_before, signed_bytes};
 ghost use Rattle.chart_frames.specs.Items.{Fails};
@@ -196,8 +198,10 @@ pub struct Source {
 
 #[tactic(auto, unfolding(crate::specs::Fields::source_fields))]
 fn source_at(length: u32, bytes: &[u8]) -> Result<(Source, &[u8]), Stop>
-    ensures reads { (next : ℕ → ℕ → Format) → Reads result (read (source_fields length next) bytes.now) (λ x. read (next x.0.axis.slots x.0.count) x.1.now) }
-    ensures fits { IfOk result (λ x. FitsSource x.0.lo x.0.hi x.0.axis.start x.0.axis.step x.0.axis.slots x.0.stored.has x.0.stored.rmin x.0.stored.rmax × (84 + 25 * x.0.count ≡ length)) }
+    ensures reads { (next : ℕ → ℕ → Format) → Reads result (read (source_fields length next) bytes.now)
+        (λ x. read (next x.0.axis.slots x.0.count) x.1.now) }
+    ensures fits { IfOk result (λ x. FitsSource x.0.lo x.0.hi x.0.axis.start x.0.axis.step x.0.axis.slots x.0.stored.has x.0.stored.rmin
+        x.0.stored.rmax × (84 + 25 * x.0.count ≡ length)) }
     ensures takes { IfOk result (λ x. bytes.now ≡ two_before x.0.lo x.0.hi (signed_bytes x.0.axis.start ++ (number_bytes 4 x.0.axis.step
         ++ (number_bytes 8 x.0.axis.slots ++ (number_bytes 1 x.0.stored.has
         ++ two_before x.0.stored.rmin x.0.stored.rmax (number_bytes 4 x.0.count ++ x.1.now)))))) }
@@ -219,7 +223,8 @@ fn source_at(length: u32, bytes: &[u8]) -> Result<(Source, &[u8]), Stop>
 #[tactic(auto, unfolding(crate::specs::Fields::view_fields, crate::specs::Spelled::place_before, crate::specs::Spelled::source_before))]
 fn view_at(alloc: Global, length: u32, bytes: &[u8]) -> Result<(ViewFrame, &[u8]), Stop>
     requires { IsTrue (is_view_length length) }
-    ensures reads { (next : ℕ → ℕ → Format) → Reads result (read (view_fields length next) bytes.now) (λ x. read (next x.0.slots x.0.count) x.1.now) }
+    ensures reads { (next : ℕ → ℕ → Format) → Reads result (read (view_fields length next) bytes.now)
+        (λ x. read (next x.0.slots x.0.count) x.1.now) }
     ensures fits { IfOk result (λ x. FitsViewHead x.0) }
     ensures length { IfOk result (λ x. 84 + 25 * x.0.count ≡ length) }
     ensures takes { IfOk result (λ x. bytes.now ≡ view_before x.0 x.1.now) }
@@ -249,7 +254,8 @@ fn view_at(alloc: Global, length: u32, bytes: &[u8]) -> Result<(ViewFrame, &[u8]
 
 #[tactic(auto, unfolding(crate::specs::Fields::head_fields, crate::specs::Spelled::rows_before))]
 fn rows_at(alloc: Global, length: u32, bytes: &[u8]) -> Result<(RowsFrame, &[u8]), Stop>
-    ensures reads { (next : ℕ → ℕ → Format) → Reads result (read (head_fields length next) bytes.now) (λ x. read (next x.0.w x.0.count) x.1.now) }
+    ensures reads { (next : ℕ → ℕ → Format) → Reads result (read (head_fields length next) bytes.now)
+        (λ x. read (next x.0.w x.0.count) x.1.now) }
     ensures fits { IfOk result (λ x. FitsRowsHead x.0) }
     ensures length { IfOk result (λ x. 27 + 34 * x.0.count ≡ length) }
     ensures takes { IfOk result (λ x. bytes.now ≡ rows_before x.0 x.1.now) }

@@ -4,7 +4,8 @@ ghost use Rattle.series_book.specs.Names.{is_name};
 ghost use Rattle.whole_number.specs.Range.{IsValue};
 ghost use Rattle.chart_frames.specs.Format.{number_bytes};
 ghost use Rattle.chart_frames.specs.Frames.{number_of_flag, FitsCatalog, FitsValues, FitsReport};
-ghost use Rattle.chart_frames.specs.Spelled.{framed, name_before, facts_before, listed_before, series_before, catalog_before, run_before, runs_before, values_before, asked_before, counts_before, report_before};
+ghost use Rattle.chart_frames.specs.Spelled.{framed, name_before, facts_before, listed_before, series_before, catalog_before, run_before};
+ghost use Rattle.chart_frames.specs.Spelled.{runs_before, values_before, asked_before, counts_before, report_before};
 
 use crate::encoding::{
     number_of_flag, put_byte, put_long, put_short, put_signed, put_start, put_two, put_word,
@@ -35,7 +36,8 @@ fn put_name(out: &mut Vec<u8>, name: &[u8]) -> Result<(), AllocError>
 // What a catalog says of a series behind its name.
 #[tactic(auto, unfolding(crate::specs::Spelled::facts_before))]
 fn put_facts(out: &mut Vec<u8>, s: &ListedSeries) -> Result<(), AllocError>
-    ensures { OnOk result ((tail : List ℕ) → out.new.items ++ tail ≡ out.old.items ++ facts_before s.now.scale s.now.start s.now.step s.now.slots s.now.has s.now.rmin s.now.rmax tail) }
+    ensures { OnOk result ((tail : List ℕ) → out.new.items ++ tail ≡ out.old.items ++ facts_before s.now.scale s.now.start s.now.step
+        s.now.slots s.now.has s.now.rmin s.now.rmax tail) }
 {
     put_byte(out, s.scale)?;
     put_signed(out, s.start)?;
@@ -73,7 +75,8 @@ fn put_pages(out: &mut Vec<u8>, total: u32, used: u32, count: u16) -> Result<(),
 
 fn put_counted(out: &mut Vec<u8>, c: &CatalogFrame, count: u16) -> Result<(), AllocError>
     requires { count ≤ 512 }
-    ensures { OnOk result ((tail : List ℕ) → out.new.items ++ tail ≡ out.old.items ++ framed (11 + 70 * count) 8 (catalog_before c.now.total c.now.used count (series_before c.now.series tail))) }
+    ensures { OnOk result ((tail : List ℕ) → out.new.items ++ tail ≡ out.old.items ++ framed (11 + 70 * count) 8
+        (catalog_before c.now.total c.now.used count (series_before c.now.series tail))) }
 {
     put_start(out, 11 + 70 * count as u32, 8)?;
     put_pages(out, c.total, c.used, count)?;
@@ -83,7 +86,8 @@ fn put_counted(out: &mut Vec<u8>, c: &CatalogFrame, count: u16) -> Result<(), Al
 fn put_catalog(out: &mut Vec<u8>, c: &CatalogFrame) -> Result<(), AllocError>
     requires { FitsCatalog c.now }
     ensures { OnOk result ((tail : List ℕ) → out.new.items ++ tail
-        ≡ out.old.items ++ framed (11 + 70 * length c.now.series) 8 (catalog_before c.now.total c.now.used (length c.now.series) (series_before c.now.series tail))) }
+        ≡ out.old.items ++ framed (11 + 70 * length c.now.series) 8
+        (catalog_before c.now.total c.now.used (length c.now.series) (series_before c.now.series tail))) }
 {
     let count = c.series.as_slice().len() as u16;
     put_counted(out, c, count)
@@ -119,7 +123,8 @@ fn put_values(out: &mut Vec<u8>, values: &[i64]) -> Result<(), AllocError>
 // The series, and where more values are.
 #[tactic(auto, unfolding(crate::specs::Spelled::asked_before))]
 fn put_asked(out: &mut Vec<u8>, v: &ValuesFrame) -> Result<(), AllocError>
-    ensures { OnOk result ((tail : List ℕ) → out.new.items ++ tail ≡ out.old.items ++ asked_before v.now.series (number_of_flag v.now.more) v.now.next tail) }
+    ensures { OnOk result ((tail : List ℕ) → out.new.items ++ tail ≡ out.old.items ++ asked_before v.now.series
+        (number_of_flag v.now.more) v.now.next tail) }
 {
     put_short(out, v.series)?;
     put_byte(out, number_of_flag(v.more))?;
@@ -139,7 +144,8 @@ fn put_both(out: &mut Vec<u8>, v: &ValuesFrame, runs: u16, values: u16) -> Resul
     requires values { values ≤ 4096 }
     requires fits { All IsValue v.now.values }
     ensures { OnOk result ((tail : List ℕ) → out.new.items ++ tail ≡ out.old.items ++ framed (16 + (16 * runs + 8 * values)) 9
-        (asked_before v.now.series (number_of_flag v.now.more) v.now.next (counts_before runs values (runs_before v.now.runs (values_before v.now.values tail))))) }
+        (asked_before v.now.series (number_of_flag v.now.more) v.now.next
+        (counts_before runs values (runs_before v.now.runs (values_before v.now.values tail))))) }
 {
     put_start(out, 16 + (16 * runs as u32 + 8 * values as u32), 9)?;
     put_asked(out, v)?;
@@ -150,7 +156,8 @@ fn put_both(out: &mut Vec<u8>, v: &ValuesFrame, runs: u16, values: u16) -> Resul
 
 fn put_stored(out: &mut Vec<u8>, v: &ValuesFrame) -> Result<(), AllocError>
     requires { FitsValues v.now }
-    ensures { OnOk result ((tail : List ℕ) → out.new.items ++ tail ≡ out.old.items ++ framed (16 + (16 * length v.now.runs + 8 * length v.now.values)) 9
+    ensures { OnOk result ((tail : List ℕ) → out.new.items ++ tail ≡ out.old.items ++ framed
+        (16 + (16 * length v.now.runs + 8 * length v.now.values)) 9
         (asked_before v.now.series (number_of_flag v.now.more) v.now.next
         (counts_before (length v.now.runs) (length v.now.values) (runs_before v.now.runs (values_before v.now.values tail))))) }
 {
@@ -160,7 +167,8 @@ fn put_stored(out: &mut Vec<u8>, v: &ValuesFrame) -> Result<(), AllocError>
 }
 
 fn put_swept(out: &mut Vec<u8>, clears: u16, used: u32, more: bool) -> Result<(), AllocError>
-    ensures { OnOk result ((tail : List ℕ) → out.new.items ++ tail ≡ out.old.items ++ framed 8 10 (number_bytes 2 clears ++ (number_bytes 4 used ++ (number_bytes 1 (number_of_flag more) ++ tail)))) }
+    ensures { OnOk result ((tail : List ℕ) → out.new.items ++ tail ≡ out.old.items ++ framed 8 10
+        (number_bytes 2 clears ++ (number_bytes 4 used ++ (number_bytes 1 (number_of_flag more) ++ tail)))) }
 {
     put_start(out, 8, 10)?;
     put_short(out, clears)?;

@@ -114,7 +114,8 @@ fn values_at(bytes: &[u8]) -> Result<(Values, &[u8]), Stop>
 
 #[tactic(auto, unfolding(crate::specs::Spelled::row_before))]
 fn row_at(w: u16, last: Option<u16>, bytes: &[u8]) -> Result<(Row, &[u8]), Stop>
-    ensures reads { (next : ℕ → Format) → Reads result (read (column_field w last (λ column. row_fields (next column))) bytes.now) (λ x. read (next x.0.column) x.1.now) }
+    ensures reads { (next : ℕ → Format) → Reads result (read (column_field w last (λ column. row_fields (next column))) bytes.now)
+        (λ x. read (next x.0.column) x.1.now) }
     ensures takes { IfOk result (λ x. FitsRow w x.0 × IsTrue (rises last x.0.column) × (bytes.now ≡ row_before x.0 x.1.now)) }
 {
     let (column, rest) = column_at(w, last, bytes)?;
@@ -142,9 +143,11 @@ fn last_column(rows: &[Row]) -> Option<u16>
 fn push_row<'a>(rows: &mut Vec<Row>, w: u16, bytes: &'a [u8]) -> Result<&'a [u8], ItemStop>
     requires { FitRows w rows.old.items }
     ensures fits { FitRows w rows.new.items }
-    ensures ok { IfOk result (λ rest. (length rows.new.items ≡ length rows.old.items + 1) × (rows_all_before rows.new.items rest.now ≡ rows_all_before rows.old.items bytes.now)) }
+    ensures ok { IfOk result (λ rest. (length rows.new.items ≡ length rows.old.items + 1)
+        × (rows_all_before rows.new.items rest.now ≡ rows_all_before rows.old.items bytes.now)) }
     ensures unchanged { OnErr result (rows.new.items ≡ rows.old.items) }
-    ensures err { IfErr result (λ e. (next : ℕ → Format) → Fails e (read (column_field w (last_column rows.old.items) (λ column. row_fields (next column))) bytes.now)) }
+    ensures err { IfErr result (λ e. (next : ℕ → Format)
+        → Fails e (read (column_field w (last_column rows.old.items) (λ column. row_fields (next column))) bytes.now)) }
 {
     match row_at(w, last_column(rows), bytes) {
         Ok((row, rest)) => match rows.push(row) {
@@ -166,7 +169,8 @@ pub fn fill_rows<'a>(
     requires room { length rows.old.items ≤ count }
     ensures fits { FitRows w rows.new.items }
     ensures room { length rows.new.items ≤ count }
-    ensures ok { IfOk result (λ rest. (length rows.new.items ≡ count) × (rows_all_before rows.new.items rest.now ≡ rows_all_before rows.old.items bytes.now)) }
+    ensures ok { IfOk result (λ rest. (length rows.new.items ≡ count)
+        × (rows_all_before rows.new.items rest.now ≡ rows_all_before rows.old.items bytes.now)) }
     ensures err { IfErr result (λ e. FailsInRows w count e rows.old.items rows.new.items bytes.now) }
 {
     let mut rest = bytes;

@@ -5,9 +5,11 @@ ghost use Rattle.chart_frames.specs.declared.limits.TheConstants.{MOST_SLOTS};
 ghost use Rattle.chart_frames.specs.declared.reports.Run.{Run};
 ghost use Rattle.chart_frames.specs.Format.{Format, number_bytes};
 ghost use Rattle.chart_frames.specs.Reading.{Reads, read};
-ghost use Rattle.chart_frames.specs.Fields.{lesser, takes_of, value_field, more_field, next_time_field, are_counts, counts_fields, asked_fields, run_fields, runs_fields, values_list, stored_values, values_fields};
+ghost use Rattle.chart_frames.specs.Fields.{lesser, takes_of, value_field, more_field, next_time_field, are_counts, counts_fields};
+ghost use Rattle.chart_frames.specs.Fields.{asked_fields, run_fields, runs_fields, values_list, stored_values, values_fields};
 ghost use Rattle.chart_frames.specs.Frames.{Fits, FitsRun, FitRuns};
-ghost use Rattle.chart_frames.specs.Spelled.{signed_bytes, framed, asked_before, counts_before, run_before, runs_before, values_before, frame_before};
+ghost use Rattle.chart_frames.specs.Spelled.{signed_bytes, framed, asked_before, counts_before, run_before, runs_before, values_before};
+ghost use Rattle.chart_frames.specs.Spelled.{frame_before};
 ghost use Rattle.chart_frames.specs.Items.{Fails};
 ghost use Rattle.chart_frames.specs.ReportParts.{values_frame, room_behind, runs_in, PushesRun, PushesValue};
 
@@ -59,8 +61,10 @@ fn are_counts(length: u32, runs: u16, values: u16) -> bool
 // The numbers of runs and of values.
 #[tactic(auto, unfolding(crate::specs::Fields::counts_fields))]
 fn counts_at(length: u32, bytes: &[u8]) -> Result<((u16, u16), &[u8]), Stop>
-    ensures reads { (next : ℕ → ℕ → Format) → Reads result (read (counts_fields length next) bytes.now) (λ x. read (next x.0.0 x.0.1) x.1.now) }
-    ensures takes { IfOk result (λ x. IsTrue (are_counts length x.0.0 x.0.1) × (bytes.now ≡ number_bytes 2 x.0.0 ++ (number_bytes 2 x.0.1 ++ x.1.now))) }
+    ensures reads { (next : ℕ → ℕ → Format) → Reads result (read (counts_fields length next) bytes.now)
+        (λ x. read (next x.0.0 x.0.1) x.1.now) }
+    ensures takes { IfOk result (λ x. IsTrue (are_counts length x.0.0 x.0.1)
+        × (bytes.now ≡ number_bytes 2 x.0.0 ++ (number_bytes 2 x.0.1 ++ x.1.now))) }
 {
     let (runs, rest) = short_at(bytes)?;
     let (values, after) = short_at(rest)?;
@@ -82,7 +86,8 @@ pub struct ValuesHead {
 
 #[tactic(auto, unfolding(crate::specs::Fields::asked_fields, crate::specs::Fields::next_fields, crate::specs::Spelled::asked_before, crate::specs::Spelled::counts_before))]
 fn head_at(length: u32, bytes: &[u8]) -> Result<(ValuesHead, &[u8]), Stop>
-    ensures reads { (next : ℕ → ℕ → Format) → Reads result (read (asked_fields length next) bytes.now) (λ x. read (next x.0.runs x.0.values) x.1.now) }
+    ensures reads { (next : ℕ → ℕ → Format) → Reads result (read (asked_fields length next) bytes.now)
+        (λ x. read (next x.0.runs x.0.values) x.1.now) }
     ensures known { IfOk result (λ x. (x.0.series < 512) × (x.0.more ≤ 1)) }
     ensures next { IfOk result (λ x. IsTime x.0.next × (x.0.more ≡ 0 → x.0.next ≡ pos 0)) }
     ensures counts { IfOk result (λ x. IsTrue (are_counts length x.0.runs x.0.values)) }
@@ -135,7 +140,8 @@ pub struct Room {
 #[tactic(auto, unfolding(crate::specs::Fields::run_fields, crate::specs::Spelled::run_before))]
 fn run_at(room: Room, behind: u16, bytes: &[u8]) -> Result<(Run, &[u8]), Stop>
     requires few { room.left ≤ 4096 }
-    ensures reads { (next : ℕ → ℕ → Format) → Reads result (read (run_fields room.from room.limit room.left behind next) bytes.now) (λ x. read (next x.0.first x.0.count) x.1.now) }
+    ensures reads { (next : ℕ → ℕ → Format) → Reads result (read (run_fields room.from room.limit room.left behind next) bytes.now)
+        (λ x. read (next x.0.first x.0.count) x.1.now) }
     ensures fits { IfOk result (λ x. FitsRun room.from room.limit room.left x.0) }
     ensures all { IfOk result (λ x. behind ≡ 0 → x.0.count ≡ room.left) }
     ensures takes { IfOk result (λ x. bytes.now ≡ run_before x.0 x.1.now) }
@@ -235,7 +241,8 @@ fn push_value<'a>(values: &mut Vec<i64>, bytes: &'a [u8]) -> Result<&'a [u8], It
 // Reads so many values.
 fn fill_values<'a>(values: &mut Vec<i64>, count: u16, bytes: &'a [u8]) -> Result<&'a [u8], ItemStop>
     requires { values.old.items ≡ [] }
-    ensures ok { IfOk result (λ rest. (length values.new.items ≡ count) × All IsValue values.new.items × (bytes.now ≡ values_before values.new.items rest.now)) }
+    ensures ok { IfOk result (λ rest. (length values.new.items ≡ count) × All IsValue values.new.items
+        × (bytes.now ≡ values_before values.new.items rest.now)) }
     ensures err { IfErr result (λ e. Fails e (read (values_list count) bytes.now)) }
 {
     let mut rest = bytes;

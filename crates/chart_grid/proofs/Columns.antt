@@ -1,4 +1,5 @@
-use Rattle.std.proofs.Common.{ℕ, ℤ, pos, ◌≡◌, ◌+◌, ◌*◌, ◌/◌, ◌<◌, ◌≤◌, ◌-ℤ◌, ◌*ℤ◌, ◌≤ℤ◌, ◌<ℤ◌, arith, ap, sym, ◌∙◌, subst, ap₂, le_refl, inl, inr, div-lt_iff_lt-mul}
+use Rattle.std.proofs.Common.{ℕ, ℤ, pos, ◌≡◌, ◌+◌, ◌*◌, ◌/◌, ◌<◌, ◌≤◌, ◌-ℤ◌, ◌*ℤ◌, ◌≤ℤ◌, ◌<ℤ◌, arith, ap, sym, ◌∙◌, subst, ap₂, le_refl}
+use Rattle.std.proofs.Common.{inl, inr, div-lt_iff_lt-mul}
 use Rattle.std.proofs.lemmas.Int.{ints}
 use Rattle.std.proofs.lemmas.Nat.{mul-le, div_below}
 use Rattle.std.proofs.Math.Nat.{mul_comm}
@@ -27,7 +28,8 @@ column-is a b c w h k =
     let Q : ℤ → Type 0 = λ z. IsFloor z (distance a c) (pos (distance a b * w / distance a c)) in
     subst Q (sym product) (floor_div-is (pos (distance a b * w)) (distance a c) (distance-some a c (omega (arith, ints))))
 
-pub column-is_at : (a b c : ℤ) (w d s r : ℕ) → a ≤ℤ b → b <ℤ c → d ≡ distance a b → s ≡ distance a c → r ≡ d * w / s → IsFloor ((b -ℤ a) *ℤ pos w) (distance a c) (pos r)
+pub column-is_at : (a b c : ℤ) (w d s r : ℕ) → a ≤ℤ b → b <ℤ c → d ≡ distance a b → s ≡ distance a c → r ≡ d * w / s
+    → IsFloor ((b -ℤ a) *ℤ pos w) (distance a c) (pos r)
 column-is_at a b c w d s r h k de se re =
     let P : ℕ → Type 0 = λ n. IsFloor ((b -ℤ a) *ℤ pos w) (distance a c) (pos n) in
     subst P (sym (re ∙ ap₂ (λ m n. m * w / n) de se)) (column-is a b c w h k)

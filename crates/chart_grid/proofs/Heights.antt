@@ -1,4 +1,5 @@
-use Rattle.std.proofs.Common.{ℕ, ℤ, pos, negsuc, neg_ℤ, zero, suc, unsigned_abs, int_lt, ◌≡◌, ◌-◌, ◌*◌, ◌/◌, ◌<◌, ◌-ℤ◌, ◌*ℤ◌, ◌≤ℤ◌, ◌<ℤ◌, arith, refl, ap, sym, ◌∙◌, Bool, true, false, cond, ap₂, subst, inl, inr, le_refl, ◌≤◌}
+use Rattle.std.proofs.Common.{ℕ, ℤ, pos, negsuc, neg_ℤ, zero, suc, unsigned_abs, int_lt, ◌≡◌, ◌-◌, ◌*◌, ◌/◌, ◌<◌, ◌-ℤ◌, ◌*ℤ◌, ◌≤ℤ◌, ◌<ℤ◌}
+use Rattle.std.proofs.Common.{arith, refl, ap, sym, ◌∙◌, Bool, true, false, cond, ap₂, subst, inl, inr, le_refl, ◌≤◌}
 use Rattle.std.proofs.lemmas.Int.{ints, by_lt_z}
 use Rattle.std.proofs.lemmas.Bool.{cases_lt}
 use Rattle.std.proofs.lemmas.Nat.{mul-le}
@@ -60,7 +61,8 @@ height-above v lo hi h wide up =
     ∙ ap (λ z. floor_div z (distance lo hi)) (pos-*ℤ-pos (distance lo v) (h - 1))
 
 -- the height of a value that isn't above the range's low end
-pub height-below : (v lo hi : ℤ) (h : ℕ) → lo <ℤ hi → v ≤ℤ lo → height v lo hi h ≡ neg_ℤ (pos (div_ceil (distance lo v * (h - 1)) (distance lo hi)))
+pub height-below : (v lo hi : ℤ) (h : ℕ) → lo <ℤ hi → v ≤ℤ lo
+    → height v lo hi h ≡ neg_ℤ (pos (div_ceil (distance lo v * (h - 1)) (distance lo hi)))
 height-below v lo hi h wide down =
     height-wide v lo hi h wide
     ∙ ap (λ z. floor_div (z *ℤ pos (h - 1)) (distance lo hi)) (before lo v down)
@@ -86,12 +88,14 @@ height-rising u v lo hi h le =
     (λ flat. omega (arith, ints, height-flat u lo hi h flat, height-flat v lo hi h flat))
 
 -- the height of a value below the range, from its parts
-pub below_is : (v lo hi : ℤ) (h d s n : ℕ) (r : ℤ) → lo <ℤ hi → v ≤ℤ lo → d ≡ distance lo v → s ≡ distance lo hi → n ≡ div_ceil (d * (h - 1)) s → r ≡ neg_ℤ (pos n) → r ≡ height v lo hi h
+pub below_is : (v lo hi : ℤ) (h d s n : ℕ) (r : ℤ) → lo <ℤ hi → v ≤ℤ lo → d ≡ distance lo v → s ≡ distance lo hi
+    → n ≡ div_ceil (d * (h - 1)) s → r ≡ neg_ℤ (pos n) → r ≡ height v lo hi h
 below_is v lo hi h d s n r wide down de se ne re =
     re ∙ ap (λ k. neg_ℤ (pos k)) (ne ∙ ap₂ (λ a b. div_ceil (a * (h - 1)) b) de se) ∙ sym (height-below v lo hi h wide down)
 
 -- and of one that isn't below the range
-pub above_is : (v lo hi : ℤ) (h d s n : ℕ) (r : ℤ) → lo <ℤ hi → lo ≤ℤ v → d ≡ distance lo v → s ≡ distance lo hi → n ≡ d * (h - 1) / s → r ≡ pos n → r ≡ height v lo hi h
+pub above_is : (v lo hi : ℤ) (h d s n : ℕ) (r : ℤ) → lo <ℤ hi → lo ≤ℤ v → d ≡ distance lo v → s ≡ distance lo hi → n ≡ d * (h - 1) / s
+    → r ≡ pos n → r ≡ height v lo hi h
 above_is v lo hi h d s n r wide up de se ne re =
     re ∙ ap pos (ne ∙ ap₂ (λ a b. a * (h - 1) / b) de se) ∙ sym (height-above v lo hi h wide up)
 

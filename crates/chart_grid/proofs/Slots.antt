@@ -12,7 +12,8 @@ use Rattle.chart_grid.proofs.Heights.{after, distance-some}
 use Rattle.chart_grid.proofs.Columns.{before_border, below_column, steps-within}
 
 -- the slots before a later time
-pub some-before : (a : Axis) (t : ℤ) (d n : ℕ) → 0 < a.step → a.start ≤ℤ t → d ≡ distance a.start t → n ≡ min (div_ceil d a.step) a.slots → AreSlotsBefore a t n
+pub some-before : (a : Axis) (t : ℤ) (d n : ℕ) → 0 < a.step → a.start ≤ℤ t → d ≡ distance a.start t → n ≡ min (div_ceil d a.step) a.slots
+    → AreSlotsBefore a t n
 some-before a t d n step late de ne = record {
   within = omega arith;
   before = λ i h. (
@@ -54,7 +55,8 @@ apart : (t b : ℤ) → (t <ℤ b → ⊥) → b ≤ℤ t
 apart t b never = by_lt_z t b (λ less. absurd (never less)) (λ le. le)
 
 -- the slots of column c lie between the borders
-pub between-borders : (a : Axis) (g : Grid) (c m n : ℕ) → c < g.w → AreSlotsBefore a (border g c) m → AreSlotsBefore a (border g (c + 1)) n → (i : ℕ) → IsInColumn a g c i ↔ ((m ≤ i) × (i < n))
+pub between-borders : (a : Axis) (g : Grid) (c m n : ℕ) → c < g.w → AreSlotsBefore a (border g c) m → AreSlotsBefore a (border g (c + 1)) n
+    → (i : ℕ) → IsInColumn a g c i ↔ ((m ≤ i) × (i < n))
 between-borders a g c m n drawn from to i =
     (λ own. (from_first own, to_last own), λ within. own_of within)
   where
@@ -118,13 +120,15 @@ border-rising g c =
     omega (arith, ints, div_ceil-rising (c * n) ((c + 1) * n) g.w g.wide.some (omega arith))
 
 -- the slots of a window begin before its first column and end behind its last
-pub window_start : (axis : Axis) (g : Grid) (c n : ℕ) → c ≡ 0 → border g 0 ≡ g.t0 → AreSlotsBefore axis (border g c) n → AreSlotsBefore axis g.t0 n
+pub window_start : (axis : Axis) (g : Grid) (c n : ℕ) → c ≡ 0 → border g 0 ≡ g.t0 → AreSlotsBefore axis (border g c) n
+    → AreSlotsBefore axis g.t0 n
 window_start axis g c n is first h =
     let P : ℕ → Type 0 = λ c. AreSlotsBefore axis (border g c) n in
     let Q : ℤ → Type 0 = λ t. AreSlotsBefore axis t n in
     subst Q first (subst P is h)
 
-pub window_stop : (axis : Axis) (g : Grid) (c n : ℕ) → c + 1 ≡ g.w → border g g.w ≡ g.t1 → AreSlotsBefore axis (border g (c + 1)) n → AreSlotsBefore axis g.t1 n
+pub window_stop : (axis : Axis) (g : Grid) (c n : ℕ) → c + 1 ≡ g.w → border g g.w ≡ g.t1 → AreSlotsBefore axis (border g (c + 1)) n
+    → AreSlotsBefore axis g.t1 n
 window_stop axis g c n is last h =
     let P : ℕ → Type 0 = λ c. AreSlotsBefore axis (border g c) n in
     let Q : ℤ → Type 0 = λ t. AreSlotsBefore axis t n in

@@ -7,7 +7,8 @@ use Rattle.chart_grid.specs.declared.grid_error.GridError.{GridError}
 use Rattle.chart_grid.specs.declared.grid_error.GridError.TheVariants.{BadWindow}
 
 -- what was said of a window holds where its ends go by other names
-pub shown_at : (r : Result Grid GridError) (a b s t : ℤ) (w h : ℕ) → s ≡ a → t ≡ b → IfOk r (λ g. ShowsWindow g s t × HasCanvas g w h) → IfOk r (λ g. ShowsWindow g a b × HasCanvas g w h)
+pub shown_at : (r : Result Grid GridError) (a b s t : ℤ) (w h : ℕ) → s ≡ a → t ≡ b → IfOk r (λ g. ShowsWindow g s t × HasCanvas g w h)
+    → IfOk r (λ g. ShowsWindow g a b × HasCanvas g w h)
 shown_at r a b s t w h e f =
     let P : ℤ → ℤ → Type 0 = λ x y. IfOk r (λ g. ShowsWindow g x y × HasCanvas g w h) in
     subst₂ P e f
@@ -17,7 +18,8 @@ accepted_at r a b s t e f =
     let P : ℤ → ℤ → Type 0 = λ x y. IsWindow x y → IsOk r in
     subst₂ P e f
 
-pub refused_at : (r : Result Grid GridError) (a b s t : ℤ) → s ≡ a → t ≡ b → ((r ≡ Err BadWindow) ↔ IsBadWindow s t) → (r ≡ Err BadWindow) ↔ IsBadWindow a b
+pub refused_at : (r : Result Grid GridError) (a b s t : ℤ) → s ≡ a → t ≡ b → ((r ≡ Err BadWindow) ↔ IsBadWindow s t)
+    → (r ≡ Err BadWindow) ↔ IsBadWindow a b
 refused_at r a b s t e f =
     let P : ℤ → ℤ → Type 0 = λ x y. (r ≡ Err BadWindow) ↔ IsBadWindow x y in
     subst₂ P e f

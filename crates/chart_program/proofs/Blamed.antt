@@ -46,7 +46,8 @@ module _ (last : ℕ → ℕ → Type 0) (count count' : ℕ) (disk : View) (pag
       → BlamesRead read last (Honest disk) count (book_pages count disk.image) page
   read_current (Err at) is = absurd is
   read_current (Ok request) is =
-      let P : ℕ → Type 0 = λ n. SaysNumbers n (pages_of n disk.image) (λ s. (page < s.total) × FindsDamaged request last (pages_of n disk.image) s page) in
+      let P : ℕ → Type 0 = λ n. SaysNumbers n (pages_of n disk.image) (λ s. (page < s.total)
+      × FindsDamaged request last (pages_of n disk.image) s page) in
       let Q : Image → Type 0 = λ i. SaysNumbers count i (λ s. (page < s.total) × FindsDamaged request last i s page) in
       record {
         reads = is.reads;
@@ -68,8 +69,10 @@ none_shown own alone n id last = let P : List Session → Type 0 = λ s. IsLastI
 
 -- ---- a serving
 
-module _ (own : List Session) (before now : Option (List ℕ)) (count count' : ℕ) (disk : View) (alone : own ≡ []) (same : count' ≡ count) where
-  spelled_end : (left : Option (List ℕ)) (end : ServeEnd) → ServeBlames own left before now (Honest disk) count' (pages_of count' disk.image) end
+module _ (own : List Session) (before now : Option (List ℕ)) (count count' : ℕ) (disk : View) (alone : own ≡ [])
+    (same : count' ≡ count) where
+  spelled_end : (left : Option (List ℕ)) (end : ServeEnd)
+      → ServeBlames own left before now (Honest disk) count' (pages_of count' disk.image) end
       → RunBlames AreSpellings count disk left before now (run_end.Serve end)
   spelled_end left serve_end.ReadFault is = tt
   spelled_end left serve_end.SendFault is = tt
@@ -90,7 +93,8 @@ module _ (own : List Session) (before now : Option (List ℕ)) (count count' : �
         is_sent = refl;
         sent = is.sent;
         blames = current (LastShown NoneShown is.front is.frames) count count' disk page same is.line
-            (more_blamed is.line (LastShown (IsLastIn own) is.front is.frames) (LastShown NoneShown is.front is.frames) (Honest disk) count' (pages_of count' disk.image) page
+            (more_blamed is.line (LastShown (IsLastIn own) is.front is.frames) (LastShown NoneShown is.front is.frames) (Honest disk) count'
+            (pages_of count' disk.image) page
             (last_more is.front is.frames (IsLastIn own) NoneShown (none_shown own alone)) is.blames);
       }
   spelled_end left serve_end.InputTooLong is = tt
@@ -105,7 +109,8 @@ module _ (own : List Session) (before now : Option (List ℕ)) (count count' : �
   -- ---- a run over a screen that held nothing
 
   module _ (one : OneFrame) (v w : List Holding) (none : v ≡ []) where
-    drawn_end : (left : Option (List ℕ)) (end : RunEnd) → ShowBlames ScreenGives v w own left before now (Honest disk) count' (pages_of count' disk.image) end
+    drawn_end : (left : Option (List ℕ)) (end : RunEnd)
+        → ShowBlames ScreenGives v w own left before now (Honest disk) count' (pages_of count' disk.image) end
         → RunBlames AreDrawnTexts count disk left before now end
     drawn_end left (run_end.Serve serve_end.ReadFault) is = tt
     drawn_end left (run_end.Serve serve_end.SendFault) is = tt
@@ -128,7 +133,8 @@ module _ (own : List Session) (before now : Option (List ℕ)) (count count' : �
           is_sent = record { drawings = drawn.0; held = w; accepted = drawn.1; texts = drawn.2 };
           sent = is.sent;
           blames = current (LastShown NoneShown is.front is.frames) count count' disk page same is.line
-              (more_blamed is.line (LastShown (IsLastIn own) is.front is.frames) (LastShown NoneShown is.front is.frames) (Honest disk) count' (pages_of count' disk.image) page
+              (more_blamed is.line (LastShown (IsLastIn own) is.front is.frames) (LastShown NoneShown is.front is.frames)
+              (Honest disk) count' (pages_of count' disk.image) page
               (last_more is.front is.frames (IsLastIn own) NoneShown (none_shown own alone)) is.blames);
         }
     drawn_end left (run_end.Serve serve_end.InputTooLong) is = tt
@@ -143,8 +149,10 @@ module _ (own : List Session) (before now : Option (List ℕ)) (count count' : �
 
 -- ---- a run over what shows frames
 
-module _ {V : Type 0} (gives : Gives V) (v w : V) (own : List Session) (before now : Option (List ℕ)) (told : Type 0) (count : ℕ) (image : Image) where
-  shown_end : (left : Option (List ℕ)) (end : ServeEnd) → BlamesTold (MakesText gives) v w own left before now told count image (answers.Serve end)
+module _ {V : Type 0} (gives : Gives V) (v w : V) (own : List Session) (before now : Option (List ℕ)) (told : Type 0) (count : ℕ)
+    (image : Image) where
+  shown_end : (left : Option (List ℕ)) (end : ServeEnd)
+      → BlamesTold (MakesText gives) v w own left before now told count image (answers.Serve end)
       → ShowBlames gives v w own left before now told count image (run_end.Serve end)
   shown_end left serve_end.ReadFault is = tt
   shown_end left serve_end.SendFault is = tt

@@ -58,8 +58,16 @@ serve_codes code (suc (suc (suc (suc (suc (suc zero))))), inside, is) missing mi
 serve_codes code (suc (suc (suc (suc (suc (suc (suc zero)))))), inside, is) missing misfit opened = absurd (missing (sym is))
 serve_codes code (suc (suc (suc (suc (suc (suc (suc (suc zero))))))), inside, is) missing misfit opened = absurd (misfit (sym is))
 serve_codes code (suc (suc (suc (suc (suc (suc (suc (suc (suc zero)))))))), inside, is) missing misfit opened = (7, omega arith, is)
-serve_codes code (suc (suc (suc (suc (suc (suc (suc (suc (suc (suc zero))))))))), inside, is) missing misfit opened = absurd (opened (sym is))
-serve_codes code (suc (suc (suc (suc (suc (suc (suc (suc (suc (suc (suc k)))))))))), inside, is) missing misfit opened = absurd (omega (arith, inside))
+serve_codes code (
+  suc (suc (suc (suc (suc (suc (suc (suc (suc (suc zero))))))))),
+  inside,
+  is,
+) missing misfit opened = absurd (opened (sym is))
+serve_codes code (
+  suc (suc (suc (suc (suc (suc (suc (suc (suc (suc (suc k)))))))))),
+  inside,
+  is,
+) missing misfit opened = absurd (omega (arith, inside))
 
 pub run_codes : (code : ℕ) → Contains of_lines code → (code ≡ 15 → ⊥) → Contains of_run code
 run_codes code (zero, inside, is) opened = (0, omega arith, is)
@@ -75,7 +83,8 @@ run_codes code (suc (suc (suc (suc (suc (suc (suc (suc (suc zero)))))))), inside
 run_codes code (suc (suc (suc (suc (suc (suc (suc (suc (suc (suc zero))))))))), inside, is) opened = absurd (opened (sym is))
 run_codes code (suc (suc (suc (suc (suc (suc (suc (suc (suc (suc (suc k)))))))))), inside, is) opened = absurd (omega (arith, inside))
 
-pub lines_codes : (code : ℕ) → Contains of_lines code → Contains (0 ∷ 3 ∷ 4 ∷ 5 ∷ 6 ∷ 7 ∷ 8 ∷ 9 ∷ 10 ∷ 11 ∷ 12 ∷ 13 ∷ 14 ∷ 15 ∷ 16 ∷ 17 ∷ []) code
+pub lines_codes : (code : ℕ) → Contains of_lines code
+    → Contains (0 ∷ 3 ∷ 4 ∷ 5 ∷ 6 ∷ 7 ∷ 8 ∷ 9 ∷ 10 ∷ 11 ∷ 12 ∷ 13 ∷ 14 ∷ 15 ∷ 16 ∷ 17 ∷ []) code
 lines_codes code (zero, inside, is) = (0, omega arith, is)
 lines_codes code (suc zero, inside, is) = (1, omega arith, is)
 lines_codes code (suc (suc zero), inside, is) = (2, omega arith, is)

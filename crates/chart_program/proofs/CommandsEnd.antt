@@ -14,7 +14,8 @@ use Rattle.chart_program.specs.Ended.{EndsBy}
 use Rattle.chart_program.specs.Ran.{CommandEnds, AreLines, of_done}
 use Rattle.chart_program.proofs.CommandCodes.{never, of_lines, lines_codes}
 
-pub both_told : (o b : Option (List ℕ)) (P : List ℕ → Type 0) (Q : Type 0) → IfSome o P → Q → IfSome o (λ input. IfSome b (λ bytes. P input × Q))
+pub both_told : (o b : Option (List ℕ)) (P : List ℕ → Type 0) (Q : Type 0) → IfSome o P → Q
+    → IfSome o (λ input. IfSome b (λ bytes. P input × Q))
 both_told None b P Q first second = tt
 both_told (Some input) None P Q first second = tt
 both_told (Some input) (Some bytes) P Q first second = (first, second)
@@ -29,25 +30,64 @@ pub small_never : (old : View) (total : ℕ) (book : List Series) → HoldsBook 
 small_never old total book holds small = omega (arith, small, is_large old.size total old.image book (holds.images old.image holds.honest))
 
 -- with a good input it is done, a stream fails, or there is no memory
-lines_completed : (IsText : Says) (CanShow : Type 0) (old new : View) (input : List ℕ) (left' before now : Option (List ℕ)) (faults : Faults) (code place : ℕ) → AreLines old new input → EndsBy IsText CanShow old new (Some input) left' before now faults code place → Contains of_lines code → Contains of_done code
+lines_completed : (IsText : Says) (CanShow : Type 0) (old new : View) (input : List ℕ) (left' before now : Option (List ℕ))
+    (faults : Faults) (code place : ℕ) → AreLines old new input
+    → EndsBy IsText CanShow old new (Some input) left' before now faults code place → Contains of_lines code → Contains of_done code
 lines_completed IsText CanShow old new input left' before now faults code place r e (zero, inside, is) = (0, omega arith, is)
 lines_completed IsText CanShow old new input left' before now faults code place r e (suc zero, inside, is) = (1, omega arith, is)
 lines_completed IsText CanShow old new input left' before now faults code place r e (suc (suc zero), inside, is) = (2, omega arith, is)
-lines_completed IsText CanShow old new input left' before now faults code place r e (suc (suc (suc zero)), inside, is) = (3, omega arith, is)
-lines_completed IsText CanShow old new input left' before now faults code place r e (suc (suc (suc (suc zero))), inside, is) = absurd (r.whole (e.fault (sym is)))
-lines_completed IsText CanShow old new input left' before now faults code place r e (suc (suc (suc (suc (suc zero)))), inside, is) = absurd (e.undamaged (sym is) r.total r.book r.holds)
-lines_completed IsText CanShow old new input left' before now faults code place r e (suc (suc (suc (suc (suc (suc zero))))), inside, is) = absurd (omega (arith, r.short, (e.much (sym is)).1))
-lines_completed IsText CanShow old new input left' before now faults code place r e (suc (suc (suc (suc (suc (suc (suc zero)))))), inside, is) = absurd ((e.missing (sym is)).1.0 r.total r.book r.holds)
-lines_completed IsText CanShow old new input left' before now faults code place r e (suc (suc (suc (suc (suc (suc (suc (suc zero))))))), inside, is) = absurd ((e.misfit (sym is)).1.0 r.total r.book r.holds)
-lines_completed IsText CanShow old new input left' before now faults code place r e (suc (suc (suc (suc (suc (suc (suc (suc (suc zero)))))))), inside, is) = absurd (small_never old r.total r.book r.holds (omega (arith, (e.small (sym is)).1)))
-lines_completed IsText CanShow old new input left' before now faults code place r e (suc (suc (suc (suc (suc (suc (suc (suc (suc (suc zero))))))))), inside, is) = absurd (e.opened (sym is))
-lines_completed IsText CanShow old new input left' before now faults code place r e (suc (suc (suc (suc (suc (suc (suc (suc (suc (suc (suc k)))))))))), inside, is) = absurd (omega (arith, inside))
+lines_completed IsText CanShow old new input left' before now faults code place r e (suc (suc (suc zero)), inside, is) = (
+  3,
+  omega arith,
+  is,
+)
+lines_completed IsText CanShow old new input left' before now faults code place r e (
+  suc (suc (suc (suc zero))),
+  inside,
+  is,
+) = absurd (r.whole (e.fault (sym is)))
+lines_completed IsText CanShow old new input left' before now faults code place r e (
+  suc (suc (suc (suc (suc zero)))),
+  inside,
+  is,
+) = absurd (e.undamaged (sym is) r.total r.book r.holds)
+lines_completed IsText CanShow old new input left' before now faults code place r e (
+  suc (suc (suc (suc (suc (suc zero))))),
+  inside,
+  is,
+) = absurd (omega (arith, r.short, (e.much (sym is)).1))
+lines_completed IsText CanShow old new input left' before now faults code place r e (
+  suc (suc (suc (suc (suc (suc (suc zero)))))),
+  inside,
+  is,
+) = absurd ((e.missing (sym is)).1.0 r.total r.book r.holds)
+lines_completed IsText CanShow old new input left' before now faults code place r e (
+  suc (suc (suc (suc (suc (suc (suc (suc zero))))))),
+  inside,
+  is,
+) = absurd ((e.misfit (sym is)).1.0 r.total r.book r.holds)
+lines_completed IsText CanShow old new input left' before now faults code place r e (
+  suc (suc (suc (suc (suc (suc (suc (suc (suc zero)))))))),
+  inside,
+  is,
+) = absurd (small_never old r.total r.book r.holds (omega (arith, (e.small (sym is)).1)))
+lines_completed IsText CanShow old new input left' before now faults code place r e
+    (suc (suc (suc (suc (suc (suc (suc (suc (suc (suc zero))))))))), inside, is) = absurd (e.opened (sym is))
+lines_completed IsText CanShow old new input left' before now faults code place r e
+    (suc (suc (suc (suc (suc (suc (suc (suc (suc (suc (suc k)))))))))), inside, is) = absurd (omega (arith, inside))
 
-lines_complete : (IsText : Says) (CanShow : Type 0) (old new : View) (left left' before now : Option (List ℕ)) (faults : Faults) (code place : ℕ) → EndsBy IsText CanShow old new left left' before now faults code place → IfSome left (λ input. AreLines old new input → Contains of_done code)
+lines_complete : (IsText : Says) (CanShow : Type 0) (old new : View) (left left' before now : Option (List ℕ)) (faults : Faults)
+    (code place : ℕ) → EndsBy IsText CanShow old new left left' before now faults code place
+    → IfSome left (λ input. AreLines old new input → Contains of_done code)
 lines_complete IsText CanShow old new None left' before now faults code place e = tt
-lines_complete IsText CanShow old new (Some input) left' before now faults code place e = λ good. lines_completed IsText CanShow old new input left' before now faults code place good e e.codes
+lines_complete IsText CanShow old new (Some input) left' before now faults code place e = λ good.
+    lines_completed IsText CanShow old new input left' before now faults code place good e e.codes
 
-pub run_ends : (old new : View) (left left' before now : Option (List ℕ)) (faults : Faults) (code place : ℕ) → EndsBy AreTexts (Unit {0}) old new left left' before now faults code place → Contains (codes_of Run) code → (old.size < 128 → IsTurnedAway left left' before now code) → (code ≡ 7 → IsBarred (page_count old.size) new left left' before now place) → CommandEnds Run old new left left' before now faults code place
+pub run_ends : (old new : View) (left left' before now : Option (List ℕ)) (faults : Faults) (code place : ℕ)
+    → EndsBy AreTexts (Unit {0}) old new left left' before now faults code place → Contains (codes_of Run) code
+    → (old.size < 128 → IsTurnedAway left left' before now code)
+    → (code ≡ 7 → IsBarred (page_count old.size) new left left' before now place)
+    → CommandEnds Run old new left left' before now faults code place
 run_ends old new left left' before now faults code place e own away bars = record {
   codes = lines_codes code e.codes;
   own = own;
@@ -93,7 +133,11 @@ run_ends old new left left' before now faults code place e own away bars = recor
   ready = λ command. cc;
 }
 
-pub serve_ends : (old new : View) (left left' before now : Option (List ℕ)) (faults : Faults) (code place : ℕ) → EndsBy Spelled ⊥ old new left left' before now faults code place → Contains (codes_of Serve) code → (old.size < 128 → IsTurnedAway left left' before now code) → (code ≡ 7 → IsBarred (page_count old.size) new left left' before now place) → CommandEnds Serve old new left left' before now faults code place
+pub serve_ends : (old new : View) (left left' before now : Option (List ℕ)) (faults : Faults) (code place : ℕ)
+    → EndsBy Spelled ⊥ old new left left' before now faults code place → Contains (codes_of Serve) code
+    → (old.size < 128 → IsTurnedAway left left' before now code)
+    → (code ≡ 7 → IsBarred (page_count old.size) new left left' before now place)
+    → CommandEnds Serve old new left left' before now faults code place
 serve_ends old new left left' before now faults code place e own away bars = record {
   codes = lines_codes code e.codes;
   own = own;

@@ -28,12 +28,28 @@ told_any (Some input) = tt
 none_read : (input : List ℕ) (state : State) (count : ℕ) → ReadsLines input state count count
 none_read input state count =
     let T : List (Option (List ℕ)) → Type 0 = λ l. ReadsInTurn state (filter says l) [] state count count in
-    record { front = []; rest = input; begins = record { split = refl; whole = inl (inl refl) }; frames = []; between = state; count = count; answered = subst T (sym lines_none) (refl, refl); last = inl refl }
+    record {
+      front = [];
+      rest = input;
+      begins = record { split = refl; whole = inl (inl refl) };
+      frames = [];
+      between = state;
+      count = count;
+      answered = subst T (sym lines_none) (refl, refl);
+      last = inl refl;
+    }
 
 none_synced : (input : List ℕ) (total : ℕ) (book : List Series) (pieces count : ℕ) → SyncsLines input total book pieces count count
 none_synced input total book pieces count =
     let C : List (Option (List ℕ)) → Type 0 = λ l. length l ≡ 0 + length (edits_of l) in
-    record { front = []; rest = input; begins = record { split = refl; whole = inl (inl refl) }; others = 0; counted = subst C (sym lines_none) refl; few = omega arith }
+    record {
+      front = [];
+      rest = input;
+      begins = record { split = refl; whole = inl (inl refl) };
+      others = 0;
+      counted = subst C (sym lines_none) refl;
+      few = omega arith;
+    }
 
 pub reads_none : (left : Option (List ℕ)) (count : ℕ) (at : View) → IfSome left (λ input. ReadsFrom count at at input at.reads)
 reads_none None count at = tt
@@ -44,12 +60,14 @@ syncs_none None count at = tt
 syncs_none (Some input) count at = λ total book holds small. none_synced input total book (at.beside.pieces - at.beside.pieces) at.syncs
 
 -- lines are served over a store that is opened first
-pub reads_opened : (left : Option (List ℕ)) (old mid new : View) → Opens (page_count old.size) old mid → IfSome left (λ input. ReadsFrom (page_count old.size) mid new input mid.reads) → IfSome left (λ input. ReadsServing old new input)
+pub reads_opened : (left : Option (List ℕ)) (old mid new : View) → Opens (page_count old.size) old mid
+    → IfSome left (λ input. ReadsFrom (page_count old.size) mid new input mid.reads) → IfSome left (λ input. ReadsServing old new input)
 reads_opened left old mid new opens =
     told_so (λ input. ReadsFrom (page_count old.size) mid new input mid.reads) (λ input. ReadsServing old new input) left
     (λ input reads. (mid.reads, opens.reads.high, λ total book holds. reads total book (held old mid opens total book holds)))
 
-pub syncs_opened : (left : Option (List ℕ)) (old mid new : View) → Opens (page_count old.size) old mid → IfSome left (λ input. SyncsFrom (page_count old.size) mid new input mid.syncs) → IfSome left (λ input. SyncsServing old new input)
+pub syncs_opened : (left : Option (List ℕ)) (old mid new : View) → Opens (page_count old.size) old mid
+    → IfSome left (λ input. SyncsFrom (page_count old.size) mid new input mid.syncs) → IfSome left (λ input. SyncsServing old new input)
 syncs_opened left old mid new opens =
     told_so (λ input. SyncsFrom (page_count old.size) mid new input mid.syncs) (λ input. SyncsServing old new input) left
     (λ input syncs. (
@@ -61,24 +79,37 @@ syncs_opened left old mid new opens =
     ))
 
 -- none was opened
-pub reads_unopened : (left : Option (List ℕ)) (old new : View) → Opens (page_count old.size) old new → IfSome left (λ input. ReadsServing old new input)
+pub reads_unopened : (left : Option (List ℕ)) (old new : View) → Opens (page_count old.size) old new
+    → IfSome left (λ input. ReadsServing old new input)
 reads_unopened None old new opens = tt
 reads_unopened (Some input) old new opens = (new.reads, opens.reads.high, λ total book holds. none_read input (begun total book) new.reads)
 
-pub syncs_unopened : (left : Option (List ℕ)) (old new : View) → Opens (page_count old.size) old new → IfSome left (λ input. SyncsServing old new input)
+pub syncs_unopened : (left : Option (List ℕ)) (old new : View) → Opens (page_count old.size) old new
+    → IfSome left (λ input. SyncsServing old new input)
 syncs_unopened None old new opens = tt
-syncs_unopened (Some input) old new opens = (new.syncs, syncs_few (page_count old.size) old new opens.few, λ total book holds small. none_synced input total book (new.beside.pieces - old.beside.pieces) new.syncs)
+syncs_unopened (Some input) old new opens = (
+  new.syncs,
+  syncs_few (page_count old.size) old new opens.few,
+  λ total book holds small. none_synced input total book (new.beside.pieces - old.beside.pieces) new.syncs,
+)
 
 -- by a service with no session open, over the pages of a disk
-pub reads_served : (left : Option (List ℕ)) (count : ℕ) (old new : View) (own : List Session) → RestsNew count old → own ≡ [] → ((total : ℕ) (book : List Series) → Honest old → StandsForBook (pages_of count old.image) total book → IfSome left (λ input. ReadsLines input (state_of book total own) old.reads new.reads)) → IfSome left (λ input. ReadsFrom count old new input old.reads)
+pub reads_served : (left : Option (List ℕ)) (count : ℕ) (old new : View) (own : List Session) → RestsNew count old → own ≡ []
+    → ((total : ℕ) (book : List Series) → Honest old → StandsForBook (pages_of count old.image) total book
+    → IfSome left (λ input. ReadsLines input (state_of book total own) old.reads new.reads))
+    → IfSome left (λ input. ReadsFrom count old new input old.reads)
 reads_served None count old new own rests alone reads = tt
 reads_served (Some input) count old new own rests alone reads = λ total book holds.
     let S : List Session → Type 0 = λ s. ReadsLines input (state_of book total s) old.reads new.reads in
     subst S alone (reads total book holds.honest (stands_held count total book old rests holds))
 
-pub syncs_served : (left : Option (List ℕ)) (count : ℕ) (old new : View) (before now : ℕ) → RestsNew count old → old.beside.pieces ≡ before → new.beside.pieces ≡ now → ((total : ℕ) (book : List Series) → Honest old → StandsForBook (pages_of count old.image) total book → IfSome left (λ input. now < 2 ^ 64 - 1 → SyncsLines input total book (now - before) old.syncs new.syncs)) → IfSome left (λ input. SyncsFrom count old new input old.syncs)
+pub syncs_served : (left : Option (List ℕ)) (count : ℕ) (old new : View) (before now : ℕ) → RestsNew count old → old.beside.pieces ≡ before
+    → new.beside.pieces ≡ now → ((total : ℕ) (book : List Series) → Honest old → StandsForBook (pages_of count old.image) total book
+    → IfSome left (λ input. now < 2 ^ 64 - 1 → SyncsLines input total book (now - before) old.syncs new.syncs))
+    → IfSome left (λ input. SyncsFrom count old new input old.syncs)
 syncs_served None count old new before now rests was is syncs = tt
 syncs_served (Some input) count old new before now rests was is syncs = λ total book holds small.
     let B : ℕ → Type 0 = λ n. SyncsLines input total book (new.beside.pieces - n) old.syncs new.syncs in
     let N : ℕ → Type 0 = λ n. SyncsLines input total book (n - before) old.syncs new.syncs in
-    subst B (sym was) (subst N (sym is) (syncs total book holds.honest (stands_held count total book old rests holds) (omega (arith, small, is))))
+    subst B (sym was) (subst N (sym is) (syncs total book holds.honest (stands_held count total book old rests holds)
+    (omega (arith, small, is))))

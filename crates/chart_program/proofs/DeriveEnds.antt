@@ -25,13 +25,16 @@ use Rattle.chart_program.proofs.Counts.{told_any}
 use Rattle.chart_program.proofs.EndsByCode.{Came, by_code, completes}
 use Rattle.chart_program.proofs.DerivePage.{of_derive}
 
-taken : (old : View) (left left' before now : Option (List ℕ)) → IfSome left (λ input. DerivesTaken (page_count old.size) old input left' before now) → IfSome left (λ input. IfSome left' (λ bytes. DerivesTaken (page_count old.size) old input (Some bytes) before now))
+taken : (old : View) (left left' before now : Option (List ℕ))
+    → IfSome left (λ input. DerivesTaken (page_count old.size) old input left' before now)
+    → IfSome left (λ input. IfSome left' (λ bytes. DerivesTaken (page_count old.size) old input (Some bytes) before now))
 taken old None left' before now all = tt
 taken old (Some input) None before now all = tt
 taken old (Some input) (Some bytes) before now all = all
 
 -- what is bad for a chart is so for a request
-by_request : (old new : View) (place : ℕ) → IsDamagedLater IsBadForChart (page_count old.size) new place → IsDamagedLater IsBadForRequest (page_count old.size) new place
+by_request : (old new : View) (place : ℕ) → IsDamagedLater IsBadForChart (page_count old.size) new place
+    → IsDamagedLater IsBadForRequest (page_count old.size) new place
 by_request old new place is = record {
   page = is.page;
   place_is = is.place_is;
@@ -40,7 +43,8 @@ by_request old new place is = record {
 }
 
 -- a line that is refused, by its place
-refused : (old : View) (left before now : Option (List ℕ)) (at number : ℕ) → IfSome left (λ input. OfBook (page_count old.size) old (λ total book. DrawsToNumber (by_book book) input before now at number))
+refused : (old : View) (left before now : Option (List ℕ)) (at number : ℕ)
+    → IfSome left (λ input. OfBook (page_count old.size) old (λ total book. DrawsToNumber (by_book book) input before now at number))
     → IfSome left (λ input. DerivesToRefused (page_count old.size) old input (refused_at at number) before now)
 refused old None before now at number all = tt
 refused old (Some input) before now at number all = λ total book holds.
@@ -49,9 +53,20 @@ refused old (Some input) before now at number all = λ total book holds.
 
 module _ (old new : View) (left left' before now : Option (List ℕ)) (faults : Faults) where
   abbrev passed : Traffic
-  passed = record { left = left; left_now = left'; sent = before; sent_now = now; reads = faults.reads; reads_now = faults.reads_now; sends = faults.sends; sends_now = faults.sends_now }
+  passed = record {
+    left = left;
+    left_now = left';
+    sent = before;
+    sent_now = now;
+    reads = faults.reads;
+    reads_now = faults.reads_now;
+    sends = faults.sends;
+    sends_now = faults.sends_now;
+  }
 
-  derive_came : (end : End) → IsDeriveCause end old new passed → IfSome left (λ input. OfBook (page_count old.size) old (λ total book. EndsSo (by_book book) input left' before now end)) → Came Derive old new left left' before now faults end
+  derive_came : (end : End) → IsDeriveCause end old new passed
+      → IfSome left (λ input. OfBook (page_count old.size) old (λ total book. EndsSo (by_book book) input left' before now end))
+      → Came Derive old new left left' before now faults end
   derive_came Done cause sent = (cause, sent, tt)
   derive_came NoMemory cause sent = sent
   derive_came ReadFault cause sent = (cause, taken old left left' before now sent)
@@ -60,7 +75,8 @@ module _ (old new : View) (left left' before now : Option (List ℕ)) (faults : 
   derive_came (DamagedBlock block) cause sent = (inl cause.0, sent, inl (cause.0.0, cause.1))
   derive_came (DamagedPage page) cause sent = (inr cause, never left sent, inr (by_request old new (block_of page) cause))
     where
-      never : (input : Option (List ℕ)) → IfSome input (λ bytes. OfBook (page_count old.size) old (λ total book. EndsSo (by_book book) bytes left' before now (DamagedPage page)))
+      never : (input : Option (List ℕ)) → IfSome input
+          (λ bytes. OfBook (page_count old.size) old (λ total book. EndsSo (by_book book) bytes left' before now (DamagedPage page)))
           → IfSome input (λ bytes. OfBook (page_count old.size) old (λ total book. ⊥))
       never None all = tt
       never (Some bytes) all = λ total book holds. (all total book holds).damages.damaged
@@ -84,7 +100,8 @@ module _ (old new : View) (left left' before now : Option (List ℕ)) (faults : 
   derive_own (RefusedLine at number) cause = (9, omega arith, refl)
   derive_own end cause = absurd cause
 
-  pub derive_ends : (end : End) → DeriveEnds old new passed end → (old.size < 128 → IsTurnedAway left left' before now (code_of end)) → CommandEnds Derive old new left left' before now faults (code_of end) (place_of end)
+  pub derive_ends : (end : End) → DeriveEnds old new passed end → (old.size < 128 → IsTurnedAway left left' before now (code_of end))
+      → CommandEnds Derive old new left left' before now faults (code_of end) (place_of end)
   derive_ends end e away = by_code Derive old new left left' before now faults end (record {
     came = derive_came end e.cause e.sent;
     own = derive_own end e.cause;

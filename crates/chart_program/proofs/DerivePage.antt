@@ -26,7 +26,8 @@ module _ (old new : View) (t : Traffic) where
   Sends end input = OfBook (page_count old.size) old (λ total book. EndsSo (by_book book) input t.left_now t.sent t.sent_now end)
 
   -- a line that is refused, by its place
-  refused : (offset number : ℕ) (input : List ℕ) → Sends (RefusedLine offset number) input → DerivesToRefused (page_count old.size) old input (refused_at offset number) t.sent t.sent_now
+  refused : (offset number : ℕ) (input : List ℕ) → Sends (RefusedLine offset number) input
+      → DerivesToRefused (page_count old.size) old input (refused_at offset number) t.sent t.sent_now
   refused offset number input sent = λ total book holds.
       let is = sent total book holds in
       record { at = offset; refusal = is.why; place_is = ap (λ n. refused_at offset n) is.number_is; draws = is.draws }
@@ -38,13 +39,17 @@ module _ (old new : View) (t : Traffic) where
   derive_does SendFault cause sent = sent
   derive_does DiskFault cause sent = sent
   derive_does (DamagedBlock block) cause sent = (record { at_first = cause.0; took_nothing = cause.1.0; sent_nothing = cause.1.1 }, sent)
-  derive_does (DamagedPage page) cause sent =
-      (cause, told_so (Sends (DamagedPage page)) (λ input. OfBook (page_count old.size) old (λ total book. ⊥)) t.left (λ input is total book holds. (is total book holds).damages.damaged) sent)
+  derive_does (DamagedPage page) cause sent = (
+    cause,
+    told_so (Sends (DamagedPage page)) (λ input. OfBook (page_count old.size) old (λ total book. ⊥)) t.left
+        (λ input is total book holds. (is total book holds).damages.damaged) sent,
+  )
   derive_does (BadInput offset) cause sent = sent
   derive_does InputTooLong cause sent = (cause, sent)
   derive_does (TooSmall blocks) cause sent = cause
   derive_does (RefusedLine offset number) cause sent =
-      told_so (Sends (RefusedLine offset number)) (λ input. DerivesToRefused (page_count old.size) old input (refused_at offset number) t.sent t.sent_now) t.left (refused offset number) sent
+      told_so (Sends (RefusedLine offset number)) (λ input. DerivesToRefused (page_count old.size) old input
+      (refused_at offset number) t.sent t.sent_now) t.left (refused offset number) sent
   derive_does end cause sent = absurd cause
 
   -- with good input it is done, a stream fails, or there is no memory
@@ -54,7 +59,8 @@ module _ (old new : View) (t : Traffic) where
   derive_good ReadFault cause input sent r = tt
   derive_good SendFault cause input sent r = tt
   derive_good DiskFault cause input sent r = absurd (r.whole cause)
-  derive_good (BadInput offset) cause input sent r = absurd (bad_never r.book input t.sent t.sent_now offset r.requests (sent r.total r.book r.holds))
+  derive_good (BadInput offset) cause input sent r = absurd
+      (bad_never r.book input t.sent t.sent_now offset r.requests (sent r.total r.book r.holds))
   derive_good (DamagedPage page) cause input sent r = absurd (sent r.total r.book r.holds).damages.damaged
   derive_good InputTooLong cause input sent r = absurd (omega (arith, r.short, (sent r.total r.book r.holds).past))
   derive_good (RefusedLine offset number) cause input sent r =

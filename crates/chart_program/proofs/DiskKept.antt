@@ -27,10 +27,12 @@ alone_since old new alone = record {
 
 pub alone_leaves : (old new : View) → StaysAlone old new → LeavesSame (page_count old.size) old new
 alone_leaves old new alone = λ total book holds.
-    since_so old new (λ image sent. Now old image) (λ image sent. RecoversTo (page_count old.size) image total book) (λ image sent left. holds.images image left) (alone_since old new alone)
+    since_so old new (λ image sent. Now old image) (λ image sent. RecoversTo (page_count old.size) image total book)
+    (λ image sent left. holds.images image left) (alone_since old new alone)
 
 -- and the disk holds the book afterwards
-pub alone_keeps : (old new : View) → StaysAlone old new → OfBook (page_count old.size) old (λ total book. HoldsBook (page_count old.size) total book new)
+pub alone_keeps : (old new : View) → StaysAlone old new
+    → OfBook (page_count old.size) old (λ total book. HoldsBook (page_count old.size) total book new)
 alone_keeps old new alone = λ total book holds. record {
   honest = kept_told old new alone.kept holds.honest;
   images = λ image left. holds.images image (now_back old new (Between old new) alone.time image left);

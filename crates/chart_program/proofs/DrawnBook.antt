@@ -32,7 +32,8 @@ use Rattle.live_view.specs.Lines.{live_line}
 use Rattle.live_view.specs.declared.live_lines.LiveLine.{LiveLine}
 use Rattle.live_view.specs.declared.live_lines.LiveLine.TheVariants.{Follow, Unfollow, Bad, Other}
 use Rattle.program_words.specs.declared.words.Command.{Command}
-use Rattle.program_words.specs.declared.words.Command.TheVariants.{Plot, Load, Demo, Run, Serve, Draw, Init, Check, ListSeries, Export, Retain, Cover, Live, Host, Derive}
+use Rattle.program_words.specs.declared.words.Command.TheVariants.{Plot, Load, Demo, Run, Serve, Draw, Init, Check, ListSeries, Export}
+use Rattle.program_words.specs.declared.words.Command.TheVariants.{Retain, Cover, Live, Host, Derive}
 use Rattle.series_book.specs.declared.edits.Edit.{Edit}
 use Rattle.chart_program.specs.Draw.{IsFrames}
 use Rattle.chart_program.specs.Ran.{CoversBook, SendsAll}
@@ -70,7 +71,8 @@ lived_fit : (events : List lives.Event) (frames : List Frame) (old new : LiveSta
 lived_fit [] [] old new lived = All-nil Fits
 lived_fit [] (f ∷ fs) old new lived = absurd lived
 lived_fit (e ∷ es) [] old new lived = absurd lived
-lived_fit (lives.answer line ∷ es) (f ∷ fs) old new lived = All-cons Fits f fs (line_fits line f old lived.0 lived.2) (lived_fit es fs lived.0 new lived.3)
+lived_fit (lives.answer line ∷ es) (f ∷ fs) old new lived = All-cons Fits f fs (line_fits line f old lived.0 lived.2)
+    (lived_fit es fs lived.0 new lived.3)
 lived_fit (lives.push ∷ es) (f ∷ fs) old new lived = All-cons Fits f fs lived.1.replied.1 (lived_fit es fs lived.0 new lived.2)
 
 one_fit : (frame : Frame) (first more frames : List Frame) → frames ≡ first ++ more → first ≡ frame ∷ [] → Fits frame
@@ -84,20 +86,26 @@ hosted_fit : (events : List Event) (frames : List Frame) (old new : LiveState) �
 hosted_fit [] frames old new row = let A : List Frame → Type 0 = λ l. All Fits l in subst A (sym row.0) (All-nil Fits)
 hosted_fit (answer line ∷ events) frames old new row =
     let one = row.happens in
-    one_fit one.frame row.first row.more frames row.frames_are one.frames_are (line_fits line one.frame old row.between one.replied) (hosted_fit events row.more row.between new row.later)
+    one_fit one.frame row.first row.more frames row.frames_are one.frames_are (line_fits line one.frame old row.between one.replied)
+    (hosted_fit events row.more row.between new row.later)
 hosted_fit (report line ∷ events) frames old new row =
     let one = row.happens in
-    one_fit one.frame row.first row.more frames row.frames_are one.frames_are one.fits (hosted_fit events row.more row.between new row.later)
+    one_fit one.frame row.first row.more frames row.frames_are one.frames_are one.fits
+    (hosted_fit events row.more row.between new row.later)
 hosted_fit (sweep line ∷ events) frames old new row =
     let one = row.happens in
-    one_fit one.frame row.first row.more frames row.frames_are one.frames_are one.replied.1 (hosted_fit events row.more row.between new row.later)
+    one_fit one.frame row.first row.more frames row.frames_are one.frames_are one.replied.1
+    (hosted_fit events row.more row.between new row.later)
 hosted_fit (group lines ∷ events) frames old new row =
     let one = row.happens in
     let A : List Frame → Type 0 = λ l. All Fits l in
-    subst A (sym row.frames_are) (All-append Fits row.first row.more (edits_fit one.edits row.first old.state row.between.state one.replied.replied) (hosted_fit events row.more row.between new row.later))
+    subst A (sym row.frames_are) (All-append Fits row.first row.more
+    (edits_fit one.edits row.first old.state row.between.state one.replied.replied)
+    (hosted_fit events row.more row.between new row.later))
 hosted_fit (push ∷ events) frames old new row =
     let one = row.happens in
-    one_fit one.frame row.first row.more frames row.frames_are one.frames_are one.pushed.replied.1 (hosted_fit events row.more row.between new row.later)
+    one_fit one.frame row.first row.more frames row.frames_are one.frames_are one.pushed.replied.1
+    (hosted_fit events row.more row.between new row.later)
 
 -- ---- the laws of what clients draw
 
@@ -159,7 +167,8 @@ pub draws_book : Known → Draws → (every : Option ℕ) (input : List ℕ) (be
     → DrawsAll every input before now → DrawsBook every input before now
 draws_book k draws every input before now all = record {
   all = λ old new lines frames r spelled.
-      sends_so k input before now frames (λ ds. ArePictured old lines frames ds new) every all (replies_fit lines frames old new r.replied) spelled
+      sends_so k input before now frames (λ ds. ArePictured old lines frames ds new) every all
+      (replies_fit lines frames old new r.replied) spelled
       (λ ds h a. (draws.all lines frames ds old new [] h r.sound r.replied (ap (λ ss. map mirrored ss) (sym r.alone)) a).0);
   own = λ n old new lines frames r spelled.
       sends_so k input before now (filter (names n) frames) (λ ds. AreOwnPictured n old lines frames ds new) every all
@@ -204,15 +213,28 @@ pub replies_good : Accepted → (input : List ℕ) → IsOfReplies input → IsF
 replies_good a input r =
     let fit = answers_fit r.frames r.answers in
     elim r.spelled [
-      | inl whole ↦ record { frames = r.frames; fit = fit; spelled = whole; accepted = answers_accepted a r.frames r.answers; short = r.short }
-      | inr one ↦ record { frames = filter (names one.0) r.frames; fit = own_fit one.0 r.frames fit; spelled = one.1; accepted = own_accepted a one.0 r.frames r.answers; short = r.short }
+      | inl whole ↦ record {
+        frames = r.frames;
+        fit = fit;
+        spelled = whole;
+        accepted = answers_accepted a r.frames r.answers;
+        short = r.short;
+      }
+      | inr one ↦ record {
+        frames = filter (names one.0) r.frames;
+        fit = own_fit one.0 r.frames fit;
+        spelled = one.1;
+        accepted = own_accepted a one.0 r.frames r.answers;
+        short = r.short;
+      }
     ]
 
 -- ---- by what was told
 
 -- what is drawn of the frames that answer lines is the book's, and they are good input
 abbrev pub Book : Type 0
-Book = (every : Option ℕ) (input : List ℕ) (before now : Option (List ℕ)) → DrawsAll every input before now → DrawsBook every input before now
+Book = (every : Option ℕ) (input : List ℕ) (before now : Option (List ℕ)) → DrawsAll every input before now
+    → DrawsBook every input before now
 
 abbrev pub Good : Type 0
 Good = (input : List ℕ) → IsOfReplies input → IsFrames input

@@ -26,7 +26,8 @@ told_with None P Q first second = tt
 told_with (Some input) P Q first second = (first, second)
 
 -- each code comes from its ends alone
-pub ends_by : {T : Type 0} (IsText : Says) (CanShow : Type 0) (old new : View) (left left' before now : Option (List ℕ)) (faults : Faults) (answer : Result T LinesEnd) → ServesWorld IsText CanShow old new left left' before now faults answer
+pub ends_by : {T : Type 0} (IsText : Says) (CanShow : Type 0) (old new : View) (left left' before now : Option (List ℕ)) (faults : Faults)
+    (answer : Result T LinesEnd) → ServesWorld IsText CanShow old new left left' before now faults answer
     → EndsBy IsText CanShow old new left left' before now faults (status_by answer).code (status_by answer).place
 ends_by IsText CanShow old new left left' before now faults (Ok u) s = record {
   codes = (0, omega arith, refl);
@@ -236,32 +237,33 @@ ends_by IsText CanShow old new left left' before now faults (Err (lines_end.Answ
   honest = s.honest;
   goes_on = s.goes_on;
 }
-ends_by IsText CanShow old new left left' before now faults (Err (lines_end.Answering (run_end.Serve (serve_end.Damaged page)))) s = record {
-  codes = (5, omega arith, refl);
-  done = λ is. apart is refl;
-  within = λ is. apart is refl;
-  memory = λ is. apart is refl;
-  read = λ is. apart is refl;
-  stopped = λ is. apart is refl;
-  send = λ is. apart is refl;
-  part = λ is. apart is refl;
-  fault = λ is. apart is refl;
-  faulted = λ is. apart is refl;
-  damaged = λ is. inr s.cause;
-  undamaged = λ is. s.ends;
-  much = λ is. apart is refl;
-  missing = λ is. apart is refl;
-  misfit = λ is. apart is refl;
-  small = λ is. apart is refl;
-  opened = λ is. apart is refl;
-  zero_place = λ is. absurd (omega (arith, low_code 7 is));
-  holds = λ other. s.holds (λ e. cc);
-  crash = s.crash;
-  reads = s.reads;
-  syncs = s.syncs;
-  honest = s.honest;
-  goes_on = s.goes_on;
-}
+ends_by IsText CanShow old new left left' before now faults
+    (Err (lines_end.Answering (run_end.Serve (serve_end.Damaged page)))) s = record {
+      codes = (5, omega arith, refl);
+      done = λ is. apart is refl;
+      within = λ is. apart is refl;
+      memory = λ is. apart is refl;
+      read = λ is. apart is refl;
+      stopped = λ is. apart is refl;
+      send = λ is. apart is refl;
+      part = λ is. apart is refl;
+      fault = λ is. apart is refl;
+      faulted = λ is. apart is refl;
+      damaged = λ is. inr s.cause;
+      undamaged = λ is. s.ends;
+      much = λ is. apart is refl;
+      missing = λ is. apart is refl;
+      misfit = λ is. apart is refl;
+      small = λ is. apart is refl;
+      opened = λ is. apart is refl;
+      zero_place = λ is. absurd (omega (arith, low_code 7 is));
+      holds = λ other. s.holds (λ e. cc);
+      crash = s.crash;
+      reads = s.reads;
+      syncs = s.syncs;
+      honest = s.honest;
+      goes_on = s.goes_on;
+    }
 ends_by IsText CanShow old new left left' before now faults (Err (lines_end.Answering (run_end.Serve serve_end.InputTooLong))) s = record {
   codes = (6, omega arith, refl);
   done = λ is. apart is refl;
@@ -340,33 +342,35 @@ ends_by IsText CanShow old new left left' before now faults (Err (lines_end.Answ
   honest = s.honest;
   goes_on = s.goes_on;
 }
-ends_by IsText CanShow old new left left' before now faults (Err (lines_end.Answering (run_end.Show (client.BadCoefficient key)))) s = record {
-  codes = (8, omega arith, refl);
-  done = λ is. apart is refl;
-  within = λ is. apart is refl;
-  memory = λ is. apart is refl;
-  read = λ is. apart is refl;
-  stopped = λ is. apart is refl;
-  send = λ is. apart is refl;
-  part = λ is. apart is refl;
-  fault = λ is. apart is refl;
-  faulted = λ is. apart is refl;
-  damaged = λ is. apart is refl;
-  undamaged = λ is. apart is refl;
-  much = λ is. apart is refl;
-  missing = λ is. apart is refl;
-  misfit = λ is. (s.cause.0, told_with left _ _ s.ends (key, refl, s.cause.2));
-  small = λ is. apart is refl;
-  opened = λ is. apart is refl;
-  zero_place = λ is. absurd (omega (arith, low_code 11 is));
-  holds = λ other. s.holds (λ e. cc);
-  crash = s.crash;
-  reads = s.reads;
-  syncs = s.syncs;
-  honest = s.honest;
-  goes_on = s.goes_on;
-}
-ends_by IsText CanShow old new left left' before now faults (Err (lines_end.Answering (run_end.Show (client.UnknownSession number)))) s = absurd s.cause
+ends_by IsText CanShow old new left left' before now faults
+    (Err (lines_end.Answering (run_end.Show (client.BadCoefficient key)))) s = record {
+      codes = (8, omega arith, refl);
+      done = λ is. apart is refl;
+      within = λ is. apart is refl;
+      memory = λ is. apart is refl;
+      read = λ is. apart is refl;
+      stopped = λ is. apart is refl;
+      send = λ is. apart is refl;
+      part = λ is. apart is refl;
+      fault = λ is. apart is refl;
+      faulted = λ is. apart is refl;
+      damaged = λ is. apart is refl;
+      undamaged = λ is. apart is refl;
+      much = λ is. apart is refl;
+      missing = λ is. apart is refl;
+      misfit = λ is. (s.cause.0, told_with left _ _ s.ends (key, refl, s.cause.2));
+      small = λ is. apart is refl;
+      opened = λ is. apart is refl;
+      zero_place = λ is. absurd (omega (arith, low_code 11 is));
+      holds = λ other. s.holds (λ e. cc);
+      crash = s.crash;
+      reads = s.reads;
+      syncs = s.syncs;
+      honest = s.honest;
+      goes_on = s.goes_on;
+    }
+ends_by IsText CanShow old new left left' before now faults
+    (Err (lines_end.Answering (run_end.Show (client.UnknownSession number)))) s = absurd s.cause
 ends_by IsText CanShow old new left left' before now faults (Err (lines_end.Answering (run_end.Show client.NoMemory))) s = record {
   codes = (1, omega arith, refl);
   done = λ is. apart is refl;
@@ -395,7 +399,8 @@ ends_by IsText CanShow old new left left' before now faults (Err (lines_end.Answ
 }
 
 -- the keys of the ends have numbers
-pub numbered_by : {T : Type 0} (CanShow : Type 0) (old new : View) (before now : Option (List ℕ)) (faults : Faults) (answer : Result T LinesEnd) → IfErr answer (λ end. IsWorldCause CanShow old new before now faults end) → IfErr answer HasNumberedKey
+pub numbered_by : {T : Type 0} (CanShow : Type 0) (old new : View) (before now : Option (List ℕ)) (faults : Faults)
+    (answer : Result T LinesEnd) → IfErr answer (λ end. IsWorldCause CanShow old new before now faults end) → IfErr answer HasNumberedKey
 numbered_by CanShow old new before now faults (Ok u) is = tt
 numbered_by CanShow old new before now faults (Err (lines_end.Opening cause)) is = tt
 numbered_by CanShow old new before now faults (Err (lines_end.Answering (run_end.Serve end))) is = tt
@@ -404,7 +409,9 @@ numbered_by CanShow old new before now faults (Err (lines_end.Answering (run_end
 numbered_by CanShow old new before now faults (Err (lines_end.Answering (run_end.Show (client.UnknownSession number)))) is = tt
 numbered_by CanShow old new before now faults (Err (lines_end.Answering (run_end.Show client.NoMemory))) is = tt
 
-pub ends_so : {T : Type 0} (IsText : Says) (CanShow : Type 0) (old new : View) (left left' before now : Option (List ℕ)) (faults : Faults) (answer : Result T LinesEnd) (status : Status) → status ≡ status_by answer → ServesWorld IsText CanShow old new left left' before now faults answer
+pub ends_so : {T : Type 0} (IsText : Says) (CanShow : Type 0) (old new : View) (left left' before now : Option (List ℕ)) (faults : Faults)
+    (answer : Result T LinesEnd) (status : Status) → status ≡ status_by answer
+    → ServesWorld IsText CanShow old new left left' before now faults answer
     → EndsBy IsText CanShow old new left left' before now faults status.code status.place
 ends_so IsText CanShow old new left left' before now faults answer status is s =
     let P : Status → Type 0 = λ x. EndsBy IsText CanShow old new left left' before now faults x.code x.place in

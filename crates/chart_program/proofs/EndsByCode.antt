@@ -8,7 +8,8 @@ use Rattle.program_words.specs.declared.words.Command.{Command}
 use Rattle.program_words.specs.declared.words.Command.TheVariants.{Init, Draw}
 use Rattle.run_ends.specs.Statuses.{block_of, code_of, place_of, refused_at}
 use Rattle.run_ends.specs.declared.ending.End.{End}
-use Rattle.run_ends.specs.declared.ending.End.TheVariants.{Done, WrongWords, NoMemory, ReadFault, SendFault, DiskFault, DamagedBlock, DamagedPage}
+use Rattle.run_ends.specs.declared.ending.End.TheVariants.{Done, WrongWords, NoMemory, ReadFault, SendFault, DiskFault, DamagedBlock}
+use Rattle.run_ends.specs.declared.ending.End.TheVariants.{DamagedPage}
 use Rattle.run_ends.specs.declared.ending.End.TheVariants.{BadInput, InputTooLong, TooMuch, Missing, BadCoefficient, TooSmall, IsStore}
 use Rattle.run_ends.specs.declared.ending.End.TheVariants.{UnknownSeries, Refused, UnknownSession, RefusedLine, NoSeries}
 use Rattle.store_commands.specs.Away.{IsTurnedAway}
@@ -18,9 +19,12 @@ use Rattle.store_commands.specs.Loaded.{unnamed_ends}
 use Rattle.chart_program.specs.CommandStatuses.{codes_of, IsOverStore, TakesNone, Bars}
 use Rattle.chart_program.specs.Course.{IsDoneOrCut}
 use Rattle.chart_program.specs.Served.{Faults}
-use Rattle.chart_program.specs.Ran.{CommandEnds, DrawsReplies, IsBadInput, IsCutShort, IsDamaged, IsFree, IsInput, IsMade, IsOfReplies, IsRefused, IsRefusedLine}
-use Rattle.chart_program.specs.Ran.{IsStreaming, IsThere, IsTooMuch, IsTooSmall, IsUndamaged, IsUnknown, IsWithin, Lacks, LeavesDisk, LeavesTold, Misfits}
-use Rattle.chart_program.specs.Ran.{NamesUnopened, ReadsByInput, ReadsFew, SendsAll, SendsPart, StopsAtDisk, StopsBefore, SyncsByInput, TellsUnnamed, of_done}
+use Rattle.chart_program.specs.Ran.{CommandEnds, DrawsReplies, IsBadInput, IsCutShort, IsDamaged, IsFree, IsInput, IsMade, IsOfReplies}
+use Rattle.chart_program.specs.Ran.{IsRefused, IsRefusedLine}
+use Rattle.chart_program.specs.Ran.{IsStreaming, IsThere, IsTooMuch, IsTooSmall, IsUndamaged, IsUnknown, IsWithin, Lacks, LeavesDisk}
+use Rattle.chart_program.specs.Ran.{LeavesTold, Misfits}
+use Rattle.chart_program.specs.Ran.{NamesUnopened, ReadsByInput, ReadsFew, SendsAll, SendsPart, StopsAtDisk, StopsBefore, SyncsByInput}
+use Rattle.chart_program.specs.Ran.{TellsUnnamed, of_done}
 
 -- the codes of the ends that come where no series has the name
 pub unnamed_codes : (end : End) → Contains unnamed_ends end → Contains (3 ∷ 6 ∷ 14 ∷ []) (code_of end)
@@ -38,7 +42,8 @@ done_codes SendFault is = (3, omega arith, refl)
 done_codes end is = absurd is
 
 -- with good input they are these
-pub completes : (left : Option (List ℕ)) (IsGood : List ℕ → Type 0) (end : End) → IfSome left (λ input. IsGood input → IsDoneOrCut end) → IfSome left (λ input. IsGood input → Contains of_done (code_of end))
+pub completes : (left : Option (List ℕ)) (IsGood : List ℕ → Type 0) (end : End) → IfSome left (λ input. IsGood input → IsDoneOrCut end)
+    → IfSome left (λ input. IsGood input → Contains of_done (code_of end))
 completes None IsGood end good = tt
 completes (Some input) IsGood end good = λ is. done_codes end (good is)
 
@@ -46,17 +51,20 @@ completes (Some input) IsGood end good = λ is. done_codes end (good is)
 module _ (command : Command) (old new : View) (left left' before now : Option (List ℕ)) (faults : Faults) where
   -- a damaged block
   abbrev Damages : ℕ → Type 0
-  Damages place = IsDamaged command old new place × IfSome left (λ input. IsUndamaged command old) × Bars command old new left left' before now place
+  Damages place = IsDamaged command old new place × IfSome left (λ input. IsUndamaged command old)
+      × Bars command old new left left' before now place
 
   abbrev Refuses : ℕ → Type 0
   Refuses place = (now ≡ before) × IfSome left (λ input. IsRefused command old new input left' place)
 
   -- what it did, by how it ended
   abbrev pub Came : End → Type 0
-  Came Done = IfSome left (IsWithin command left') × IfSome left (λ input. SendsAll command old new input before now) × IsMade command old new
+  Came Done = IfSome left (IsWithin command left') × IfSome left (λ input. SendsAll command old new input before now)
+      × IsMade command old new
   Came (WrongWords word) = ⊥
   Came NoMemory = IfSome left (λ input. IsCutShort command old new input before now)
-  Came ReadFault = HasRisen faults.reads faults.reads_now × IfSome left (λ input. IfSome left' (StopsBefore command old new input before now))
+  Came ReadFault = HasRisen faults.reads faults.reads_now
+      × IfSome left (λ input. IfSome left' (StopsBefore command old new input before now))
   Came SendFault = HasRisen faults.sends faults.sends_now × IfSome left (λ input. SendsPart command old new input before now)
   Came DiskFault = HasRisen old.faults new.faults × IfSome left (λ input. StopsAtDisk command old input before now)
   Came (DamagedBlock block) = Damages block

@@ -159,22 +159,27 @@ module _ (old new : View) (input was sent bytes : List ℕ) (faults : Faults) (c
       sent_all (AreTexts (begun total book)) (begun total book) done.0 input done.1.text was sent code done.1.answers done.1.sent
   texts_sent total book holds (suc zero, inside, is) =
       let some = e.memory (sym is) total book holds in
-      sent_first (AreTexts (begun total book)) (begun total book) some.1.between input some.1.rest was sent code some.1.first (other_than code 2 (sym is))
+      sent_first (AreTexts (begun total book)) (begun total book) some.1.between input some.1.rest was sent code some.1.first
+      (other_than code 2 (sym is))
   texts_sent total book holds (suc (suc zero), inside, is) =
       let taken = e.stopped (sym is) total book holds in
-      sent_first (AreTexts (begun total book)) (begun total book) taken.0 input taken.1.rest was sent code taken.1.first (other_than code 3 (sym is))
+      sent_first (AreTexts (begun total book)) (begun total book) taken.0 input taken.1.rest was sent code taken.1.first
+      (other_than code 3 (sym is))
   texts_sent total book holds (suc (suc (suc zero)), inside, is) =
       let part = (e.part (sym is) total book holds).1 in
-      sent_part (AreTexts (begun total book)) (begun total book) part.between input part.front part.rest part.text was sent part.count code part.begins
+      sent_part (AreTexts (begun total book)) (begun total book) part.between input part.front part.rest part.text was sent part.count code
+      part.begins
       part.answers part.sent (other_than code 4 (sym is))
   texts_sent total book holds (suc (suc (suc (suc zero))), inside, is) =
       let lines = e.faulted (sym is) total book holds in
-      sent_first (AreTexts (begun total book)) (begun total book) lines.between input lines.rest was sent code lines.first (other_than code 5 (sym is))
+      sent_first (AreTexts (begun total book)) (begun total book) lines.between input lines.rest was sent code lines.first
+      (other_than code 5 (sym is))
   texts_sent total book holds (suc (suc (suc (suc (suc zero)))), inside, is) =
       absurd (e.undamaged (sym is) total book holds)
   texts_sent total book holds (suc (suc (suc (suc (suc (suc zero))))), inside, is) =
       let within = (e.much (sym is)).2 total book holds in
-      sent_first (AreTexts (begun total book)) (begun total book) within.0 input within.1.rest was sent code within.1.first (other_than code 8 (sym is))
+      sent_first (AreTexts (begun total book)) (begun total book) within.0 input within.1.rest was sent code within.1.first
+      (other_than code 8 (sym is))
   texts_sent total book holds (suc (suc (suc (suc (suc (suc (suc zero)))))), inside, is) =
       absurd ((e.missing (sym is)).0 total book holds)
   texts_sent total book holds (suc (suc (suc (suc (suc (suc (suc (suc zero))))))), inside, is) =
@@ -234,7 +239,8 @@ host_run reads one old new input sent code leaves begins after at b is total boo
     let left = left_by one Host input (page_count old.size) total book (sent_now old) after (new.sent_by at) life in (
       left.0,
       (elim (list_any asks_sweep (told input)) as (λ some. list_any asks_sweep (told input) ≡ some
-          → IsExact (if some then changes else watches) total book (run_of (task_of Host input) begins input sent code old new at after) left.0) [
+          → IsExact (if some then changes else watches) total book
+          (run_of (task_of Host input) begins input sent code old new at after) left.0) [
             | true ↦ λ some. tt
             | false ↦ λ none. quiet_left reads total book input left.0 none left.1.0
           ]) refl,
@@ -243,7 +249,8 @@ host_run reads one old new input sent code leaves begins after at b is total boo
 
 -- ---- any command
 
-command_run : ServingsAreExact → TextsAreExact → LinesSayWhatIsRead → OneBook → (command : Command) (old new : View) (input was sent bytes : List ℕ) (faults : Faults)
+command_run : ServingsAreExact → TextsAreExact → LinesSayWhatIsRead → OneBook
+    → (command : Command) (old new : View) (input was sent bytes : List ℕ) (faults : Faults)
     (code place : ℕ) → CommandEnds command old new (Some input) (Some bytes) (Some was) (Some (was ++ sent)) faults code place
     → (begins after : Image) (at : ℕ) → BeginsOn begins old → IsLeftAt old new at after
     → IsRun (page_count old.size) (run_of (task_of command input) begins input sent code old new at after)
@@ -253,20 +260,25 @@ command_run law texts reads one (Cover every) old new input was sent bytes fault
 command_run law texts reads one Init old new input was sent bytes faults code place e = look_run old new input sent code e.crash
 command_run law texts reads one Check old new input was sent bytes faults code place e = look_run old new input sent code e.crash
 command_run law texts reads one ListSeries old new input was sent bytes faults code place e = look_run old new input sent code e.crash
-command_run law texts reads one (Export name window) old new input was sent bytes faults code place e = look_run old new input sent code e.crash
+command_run law texts reads one (Export name window) old new input was sent bytes faults code place e = look_run old new input sent code
+    e.crash
 command_run law texts reads one Derive old new input was sent bytes faults code place e = look_run old new input sent code e.crash
-command_run law texts reads one Serve old new input was sent bytes faults code place e = serve_run old new input was sent bytes faults code place e law
-command_run law texts reads one Run old new input was sent bytes faults code place e = text_run old new input was sent bytes faults code place e texts
+command_run law texts reads one Serve old new input was sent bytes faults code place e = serve_run old new input was sent bytes faults code
+    place e law
+command_run law texts reads one Run old new input was sent bytes faults code place e = text_run old new input was sent bytes faults code
+    place e texts
 command_run law texts reads one (Load name) old new input was sent bytes faults code place e =
     change_run one (Load name) old new input sent code e.crash
 command_run law texts reads one (Demo seed rounds) old new input was sent bytes faults code place e =
     change_run one (Demo seed rounds) old new input sent code e.crash
-command_run law texts reads one Retain old new input was sent bytes faults code place e = change_run one Retain old new input sent code e.crash
+command_run law texts reads one Retain old new input was sent bytes faults code place e = change_run one Retain old new input sent code
+    e.crash
 command_run law texts reads one Live old new input was sent bytes faults code place e = live_run reads old new input sent code e.crash
 command_run law texts reads one Host old new input was sent bytes faults code place e = host_run reads one old new input sent code e.crash
 
 -- where the input is told
-pub runs_made : ServingsAreExact → TextsAreExact → LinesSayWhatIsRead → OneBook → (command : Command) (old new : View) (left left' before now : Option (List ℕ))
+pub runs_made : ServingsAreExact → TextsAreExact → LinesSayWhatIsRead → OneBook
+    → (command : Command) (old new : View) (left left' before now : Option (List ℕ))
     (faults : Faults) (code place : ℕ) → CommandEnds command old new left left' before now faults code place
     → IfSome left (λ input. MakesRuns code left' command old new input before now)
 runs_made law texts reads one command old new None left' before now faults code place e = tt
@@ -275,7 +287,8 @@ runs_made law texts reads one command old new (Some input) left' before now faul
     let L : Option (List ℕ) → Type 0 = λ l. CommandEnds command old new (Some input) l before now faults code place in
     let B : Option (List ℕ) → Type 0 = λ o. CommandEnds command old new (Some input) (Some bytes) o now faults code place in
     let N : Option (List ℕ) → Type 0 = λ o. CommandEnds command old new (Some input) (Some bytes) (Some was) o faults code place in
-    command_run law texts reads one command old new input was sent bytes faults code place (subst N now_is (subst B before_is (subst L left_is e)))
+    command_run law texts reads one command old new input was sent bytes faults code place
+    (subst N now_is (subst B before_is (subst L left_is e)))
     begins after at b is
 
 -- ---- the first run
@@ -324,7 +337,8 @@ drawing old new input left' before now faults code place e (suc (suc (suc (suc (
 
 -- and with covers
 covering : (every : ℕ) (old new : View) (input : List ℕ) (left' before now : Option (List ℕ)) (faults : Faults) (code place : ℕ)
-    → CommandEnds (Cover every) old new (Some input) left' before now faults code place → Contains drawing_codes code → Covers every input left' before now
+    → CommandEnds (Cover every) old new (Some input) left' before now faults code place → Contains drawing_codes code
+    → Covers every input left' before now
 covering every old new input left' before now faults code place e (zero, inside, is) = inl (e.done (sym is))
 covering every old new input left' before now faults code place e (suc zero, inside, is) = inr (draw_end.BadFrame place, tt, e.bad (sym is))
 covering every old new input left' before now faults code place e (suc (suc zero), inside, is) =

@@ -50,7 +50,9 @@ told_served (Ok done) = refl
 told_served (Err end) = refl
 
 -- a text that wasn't made is no failed call
-pub told_run : {T : Type 0} (answer : Result T (AnswerEnd RunEnd)) → ((f : ServeEnd) → (f ≡ serve_end.NoMemory → ⊥) → run_answer answer ≡ Err (Serve f) → answer ≡ Err (answers.Serve f)) → fault_in run_fault (run_answer answer) ≡ fault_in answer_fault answer
+pub told_run : {T : Type 0} (answer : Result T (AnswerEnd RunEnd))
+    → ((f : ServeEnd) → (f ≡ serve_end.NoMemory → ⊥) → run_answer answer ≡ Err (Serve f) → answer ≡ Err (answers.Serve f))
+    → fault_in run_fault (run_answer answer) ≡ fault_in answer_fault answer
 told_run (Ok done) made = refl
 told_run (Err (answers.Serve end)) made = refl
 told_run (Err (answers.Reply (Serve serve_end.ReadFault))) made = absurd (cc (made serve_end.ReadFault (λ is. cc) refl))
@@ -75,12 +77,15 @@ told_plotted (Err (Input input.TooManySlots)) = refl
 pub is_of_take : {T : Type 0} (f : LineFault) (r : Result T InputEnd) → r ≡ Err (end_of f) → r ≢ Err input.ReadFault → f ≢ fault.ReadFault
 is_of_take f r is other read = other (is ∙ ap (λ (x : LineFault). Err (end_of x)) read)
 
-module _ {W : Type 0} (view : W → View) (reads sends : W → ℕ) (beside_reads : (world : W) → (view world).beside.read_faults ≡ reads world) (beside_sends : (world : W) → (view world).beside.send_faults ≡ sends world) (old new : W) (kept : DiskKept (view old) (view new)) where
+module _ {W : Type 0} (view : W → View) (reads sends : W → ℕ) (beside_reads : (world : W)
+    → (view world).beside.read_faults ≡ reads world) (beside_sends : (world : W)
+    → (view world).beside.send_faults ≡ sends world) (old new : W) (kept : DiskKept (view old) (view new)) where
   none : reads new ≡ reads old → sends new ≡ sends old → CountsFault None (view old) (view new)
   none = counts_kept view reads sends beside_reads beside_sends old new kept
 
   -- slots that weren't read
-  pub counts_slots : (end : InputEnd) → (end ≡ input.ReadFault → HasRisen (reads old) (reads new)) → (end ≢ input.ReadFault → reads new ≡ reads old) → sends new ≡ sends old → CountsFault (plot_fault (Input end)) (view old) (view new)
+  pub counts_slots : (end : InputEnd) → (end ≡ input.ReadFault → HasRisen (reads old) (reads new))
+      → (end ≢ input.ReadFault → reads new ≡ reads old) → sends new ≡ sends old → CountsFault (plot_fault (Input end)) (view old) (view new)
   counts_slots input.NoMemory risen quiet send = none (quiet (λ is. cc)) send
   counts_slots input.ReadFault risen quiet send = counts_untaken view reads sends beside_reads beside_sends old new kept (risen refl) send
   counts_slots input.InputTooLong risen quiet send = none (quiet (λ is. cc)) send
@@ -88,10 +93,14 @@ module _ {W : Type 0} (view : W → View) (reads sends : W → ℕ) (beside_read
   counts_slots input.TooManySlots risen quiet send = none (quiet (λ is. cc)) send
 
   -- pictures that are sent
-  pub counts_drawn : {T : Type 0} (answer : Result T DrawEnd) → (answer ≡ Err draw_end.ReadFault → HasRisen (reads old) (reads new)) → (answer ≡ Err draw_end.SendFault → HasRisen (sends old) (sends new)) → (answer ≢ Err draw_end.ReadFault → reads new ≡ reads old) → (answer ≢ Err draw_end.SendFault → sends new ≡ sends old) → CountsFault (end_fault (drawing_end answer)) (view old) (view new)
+  pub counts_drawn : {T : Type 0} (answer : Result T DrawEnd) → (answer ≡ Err draw_end.ReadFault → HasRisen (reads old) (reads new))
+      → (answer ≡ Err draw_end.SendFault → HasRisen (sends old) (sends new)) → (answer ≢ Err draw_end.ReadFault → reads new ≡ reads old)
+      → (answer ≢ Err draw_end.SendFault → sends new ≡ sends old) → CountsFault (end_fault (drawing_end answer)) (view old) (view new)
   counts_drawn (Ok done) read send no_read no_send = none (no_read (λ is. cc)) (no_send (λ is. cc))
-  counts_drawn (Err draw_end.ReadFault) read send no_read no_send = counts_untaken view reads sends beside_reads beside_sends old new kept (read refl) (no_send (λ is. cc))
-  counts_drawn (Err draw_end.SendFault) read send no_read no_send = counts_unsent view reads sends beside_reads beside_sends old new kept (no_read (λ is. cc)) (send refl)
+  counts_drawn (Err draw_end.ReadFault) read send no_read no_send = counts_untaken view reads sends beside_reads beside_sends old new kept
+      (read refl) (no_send (λ is. cc))
+  counts_drawn (Err draw_end.SendFault) read send no_read no_send = counts_unsent view reads sends beside_reads beside_sends old new kept
+      (no_read (λ is. cc)) (send refl)
   counts_drawn (Err draw_end.NoMemory) read send no_read no_send = none (no_read (λ is. cc)) (no_send (λ is. cc))
   counts_drawn (Err draw_end.InputTooLong) read send no_read no_send = none (no_read (λ is. cc)) (no_send (λ is. cc))
   counts_drawn (Err (draw_end.BadFrame at)) read send no_read no_send = none (no_read (λ is. cc)) (no_send (λ is. cc))

@@ -23,29 +23,39 @@ first_in : {T : Type 0} (old : View) (t : Traffic) (answer : Result T RunEnd) �
 first_in old t (Ok done) large = large
 first_in old t (Err end) large = large
 
-pub first_so : {T : Type 0} (old : View) (t : Traffic) (answer : Result T RunEnd) (told : Result T LinesEnd) → told ≡ in_world answer → 128 ≤ old.size → OpensFirst old t told
+pub first_so : {T : Type 0} (old : View) (t : Traffic) (answer : Result T RunEnd) (told : Result T LinesEnd) → told ≡ in_world answer
+    → 128 ≤ old.size → OpensFirst old t told
 first_so {T} old t answer told is large =
     let P : Result T LinesEnd → Type 0 = λ r. OpensFirst old t r in
     subst P (sym is) (first_in old t answer large)
 
 -- over a disk that is too small it was turned away
-away_lines : {T : Type 0} (CanShow : Type 0) (old new : View) (t : Traffic) (faults : Faults) (answer : Result T LinesEnd) → OpensFirst old t answer → IfErr answer (λ end. IsWorldCause CanShow old new t.sent t.sent_now faults end) → old.size < 128
+away_lines : {T : Type 0} (CanShow : Type 0) (old new : View) (t : Traffic) (faults : Faults) (answer : Result T LinesEnd)
+    → OpensFirst old t answer → IfErr answer (λ end. IsWorldCause CanShow old new t.sent t.sent_now faults end) → old.size < 128
     → IsTurnedAway t.left t.left_now t.sent t.sent_now (status_by answer).code
 away_lines CanShow old new t faults (Ok done) first cause few = absurd (omega (arith, first, few))
-away_lines CanShow old new t faults (Err (lines_end.Opening why)) first cause few = away_by old new t.left t.left_now t.sent t.sent_now why cause few first.left_is first.sent_is
+away_lines CanShow old new t faults (Err (lines_end.Opening why)) first cause few = away_by old new t.left t.left_now t.sent t.sent_now why
+    cause few first.left_is first.sent_is
 away_lines CanShow old new t faults (Err (lines_end.Answering end)) first cause few = absurd (omega (arith, first, few))
 
-pub away_served : {T : Type 0} (CanShow : Type 0) (old new : View) (t : Traffic) (faults : Faults) (answer : Result T LinesEnd) (status : Status) → status ≡ status_by answer → OpensFirst old t answer → IfErr answer (λ end. IsWorldCause CanShow old new t.sent t.sent_now faults end)
+pub away_served : {T : Type 0} (CanShow : Type 0) (old new : View) (t : Traffic) (faults : Faults) (answer : Result T LinesEnd)
+    (status : Status) → status ≡ status_by answer → OpensFirst old t answer
+    → IfErr answer (λ end. IsWorldCause CanShow old new t.sent t.sent_now faults end)
     → TurnsAway old t status
 away_served CanShow old new t faults answer status is first cause few =
     let P : Status → Type 0 = λ s. IsTurnedAway t.left t.left_now t.sent t.sent_now s.code in
     subst P (sym is) (away_lines CanShow old new t faults answer first cause few)
 
 -- a block that is called damaged was found so at the opening, or as lines were answered
-barred_lines : {T : Type 0} (CanShow : Type 0) (old new : View) (t : Traffic) (faults : Faults) (answer : Result T LinesEnd) → OpensFirst old t answer → IfErr answer (λ end. IsWorldCause CanShow old new t.sent t.sent_now faults end) → IsBarredBy old new t (status_by answer)
+barred_lines : {T : Type 0} (CanShow : Type 0) (old new : View) (t : Traffic) (faults : Faults) (answer : Result T LinesEnd)
+    → OpensFirst old t answer → IfErr answer (λ end. IsWorldCause CanShow old new t.sent t.sent_now faults end)
+    → IsBarredBy old new t (status_by answer)
 barred_lines CanShow old new t faults (Ok done) first cause is = apart is refl
 barred_lines CanShow old new t faults (Err (lines_end.Opening (opening.TooSmall size))) first cause is = apart is refl
-barred_lines CanShow old new t faults (Err (lines_end.Opening (opening.Damaged block))) first cause is = inl (first.place, (first.left_is, first.sent_is))
+barred_lines CanShow old new t faults (Err (lines_end.Opening (opening.Damaged block))) first cause is = inl (
+  first.place,
+  (first.left_is, first.sent_is),
+)
 barred_lines CanShow old new t faults (Err (lines_end.Opening opening.DiskFault)) first cause is = apart is refl
 barred_lines CanShow old new t faults (Err (lines_end.Opening opening.NoMemory)) first cause is = apart is refl
 barred_lines CanShow old new t faults (Err (lines_end.Answering (run_end.Serve serve_end.ReadFault))) first cause is = apart is refl
@@ -56,10 +66,13 @@ barred_lines CanShow old new t faults (Err (lines_end.Answering (run_end.Serve s
 barred_lines CanShow old new t faults (Err (lines_end.Answering (run_end.Serve serve_end.NoMemory))) first cause is = apart is refl
 barred_lines CanShow old new t faults (Err (lines_end.Answering (run_end.Show (client.Missing key)))) first cause is = apart is refl
 barred_lines CanShow old new t faults (Err (lines_end.Answering (run_end.Show (client.BadCoefficient key)))) first cause is = apart is refl
-barred_lines CanShow old new t faults (Err (lines_end.Answering (run_end.Show (client.UnknownSession number)))) first cause is = apart is refl
+barred_lines CanShow old new t faults (Err (lines_end.Answering (run_end.Show (client.UnknownSession number)))) first cause is = apart is
+    refl
 barred_lines CanShow old new t faults (Err (lines_end.Answering (run_end.Show client.NoMemory))) first cause is = apart is refl
 
-pub barred_served : {T : Type 0} (CanShow : Type 0) (old new : View) (t : Traffic) (faults : Faults) (answer : Result T LinesEnd) (status : Status) → status ≡ status_by answer → OpensFirst old t answer → IfErr answer (λ end. IsWorldCause CanShow old new t.sent t.sent_now faults end)
+pub barred_served : {T : Type 0} (CanShow : Type 0) (old new : View) (t : Traffic) (faults : Faults) (answer : Result T LinesEnd)
+    (status : Status) → status ≡ status_by answer → OpensFirst old t answer
+    → IfErr answer (λ end. IsWorldCause CanShow old new t.sent t.sent_now faults end)
     → IsBarredBy old new t status
 barred_served CanShow old new t faults answer status is first cause =
     let P : Status → Type 0 = λ s. IsBarredBy old new t s in

@@ -42,7 +42,8 @@ module _ (old new : View) (left left' before now : Option (List ℕ)) (faults : 
   host_came (TooSmall blocks) cause does = cause
   host_came end cause does = absurd cause
 
-  host_own : (end : End) → IsHostCause end old new (passed left left' before now faults) → Contains (codes_of Host) (code_of (hosting_end end))
+  host_own : (end : End) → IsHostCause end old new (passed left left' before now faults)
+      → Contains (codes_of Host) (code_of (hosting_end end))
   host_own Done cause = (0, omega arith, refl)
   host_own (DamagedPage page) cause = (5, omega arith, refl)
   host_own InputTooLong cause = (6, omega arith, refl)

@@ -85,7 +85,11 @@ module _ (old new : View) (t : Traffic) where
       → IfSome t.left (CostsHosting old new) → (end ≡ Done → AreAnswered) → Blamed end → OfHost at (hosting_end end)
   of_host end e away costs answered blamed = record {
     does = host_does end e.cause e.does;
-    store = record { goes_on = e.goes_on; away = (let A : ℕ → Type 0 = λ n. old.size < 128 → IsTurnedAway t.left t.left_now t.sent t.sent_now n in subst A (sym (hosted_code end)) away) };
+    store = record {
+      goes_on = e.goes_on;
+      away = (let A : ℕ → Type 0 = λ n. old.size < 128
+          → IsTurnedAway t.left t.left_now t.sent t.sent_now n in subst A (sym (hosted_code end)) away);
+    };
     crash = e.crash;
     costs = costs;
     good = good_host end e;

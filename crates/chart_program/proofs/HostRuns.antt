@@ -2,7 +2,8 @@
 use Rattle.std.specs.Prelude.{codes, if◌then◌else◌, nat_lt, ◌||◌, ◌-◌}
 use Rattle.std.specs.Str.{bytes_eq}
 use Rattle.std.specs.List.{list_any}
-use Rattle.std.proofs.Common.{◌≡◌, ℕ, ◌+◌, Bool, true, false, inl, inr, List, [], ◌∷◌, ◌++◌, length, map, take, Option, None, Some, Ok, refl, ap, sym, subst, ◌∙◌, arith}
+use Rattle.std.proofs.Common.{◌≡◌, ℕ, ◌+◌, Bool, true, false, inl, inr, List, [], ◌∷◌, ◌++◌, length, map, take, Option, None, Some, Ok}
+use Rattle.std.proofs.Common.{refl, ap, sym, subst, ◌∙◌, arith}
 use Rattle.std.proofs.lemmas.List.{take_all}
 use Rattle.std.proofs.lemmas.List.Folds.{list_any-append}
 use Rattle.std.proofs.lemmas.Slice.Eq.{bytes_eq-Decides}
@@ -11,12 +12,14 @@ use Rattle.chart_service.specs.EditGroups.{RepliesToEdits, SpellEdits, SpellsEdi
 use Rattle.chart_service.specs.State.{State}
 use Rattle.chart_service.specs.Replies.{RepliesTo}
 use Rattle.chart_service.specs.Serving.{told}
-use Rattle.host_lines.specs.Grammar.{host_line, places_fault, rule_fault, rule_named, sum_named, sum_places, tokens_ask, unless, values_named, values_places}
+use Rattle.host_lines.specs.Grammar.{host_line, places_fault, rule_fault, rule_named, sum_named, sum_places, tokens_ask, unless}
+use Rattle.host_lines.specs.Grammar.{values_named, values_places}
 use Rattle.host_lines.specs.declared.asked.HostLine.{HostLine}
 use Rattle.host_lines.specs.declared.asked.HostLine.TheVariants.{List as ListLine, Values, Sum, Sweep, Bad, Other}
 use Rattle.host_replies.specs.Replies.{Reported}
 use Rattle.host_sweeps.specs.Sweeping.{SweepReplied, most_clears, step_clears}
-use Rattle.hosted_lines.specs.Hosts.{AnswersLine, DoesGroup, Event, Happens, InRow, IsPassed, Reports, Sweeps, answer, clears_asked, group, lines_in, push, report, sweep}
+use Rattle.hosted_lines.specs.Hosts.{AnswersLine, DoesGroup, Event, Happens, InRow, IsPassed, Reports, Sweeps, answer, clears_asked, group}
+use Rattle.hosted_lines.specs.Hosts.{lines_in, push, report, sweep}
 use Rattle.hosted_lines.specs.Running.{FirstLines}
 use Rattle.live_service.specs.LiveReplies.{LiveState}
 use Rattle.hosted_lines.specs.Begun.{begun_live}
@@ -140,7 +143,8 @@ reported text frames old new r =
     let is = is_report (host_line text) r.frame old.state r.reported in
     let total = old.state.total in
     let book = old.state.book in (
-      ap (λ s. s.state.book) r.same ∙ sym (no_clears total book (Some text) (is.clears (begun total book)) ∙ unsaid total book text is.asks),
+      ap (λ s. s.state.book) r.same ∙ sym (no_clears total book (Some text) (is.clears (begun total book))
+          ∙ unsaid total book text is.asks),
       ap (λ s. s.state.total) r.same,
     )
 
@@ -156,7 +160,8 @@ stepped_book : (rule : Rule) (frame : Frame) (old new : LiveState) → SweepRepl
 stepped_book rule frame old new replied = elim replied.0 [
   | inl refuses ↦ (
     ap (λ s. s.book) refuses.state_same
-        ∙ sym (ap (λ cs. after_edits old.state.total old.state.book (take most_clears cs)) (none_swept old.state.total old.state.book rule refuses.none)),
+        ∙ sym (ap (λ cs. after_edits old.state.total old.state.book (take most_clears cs))
+        (none_swept old.state.total old.state.book rule refuses.none)),
     ap (λ s. s.total) refuses.state_same,
   )
   | inr does ↦ (ap (λ s. s.book) does.state_is, ap (λ s. s.total) does.state_is)
@@ -173,7 +178,8 @@ swept text frames old new s =
     let clears : clears_of total book (Some text) ≡ sweeps_some total book s.rule most_clears =
     ap (λ asked. clears_asked asked (begun total book)) s.asks in (
       here.0 ∙ sym (ap (after_edits total (after_line total book (Some text))) clears
-          ∙ ap (λ b. after_edits total b (sweeps_some total book s.rule most_clears)) (unsaid total book text (not_other text s.rule s.asks))),
+          ∙ ap (λ b. after_edits total b (sweeps_some total book s.rule most_clears))
+          (unsaid total book text (not_other text s.rule s.asks))),
       here.1,
     )
 
@@ -192,7 +198,8 @@ said_clears (Sweep rule) text request is said state = absurd (some_none (sym sai
 said_clears (Bad at) text request is said state = refl
 said_clears Other text request is said state = refl
 
-edit_done : (line : Line) (edit : Edit) (frame : Frame) (old new : State) → SpellsEdit line edit → RepliesTo (Ok (EditRequest edit)) frame old new
+edit_done : (line : Line) (edit : Edit) (frame : Frame) (old new : State) → SpellsEdit line edit
+    → RepliesTo (Ok (EditRequest edit)) frame old new
     → (new.book ≡ after_hosted old.total old.book line) × (new.total ≡ old.total)
 edit_done None edit frame old new spells replied = absurd spells
 edit_done (Some []) edit frame old new spells replied = absurd spells
@@ -213,8 +220,10 @@ edits_done (line ∷ lines) [] frames old new spell replied = absurd spell
 edits_done (line ∷ lines) (edit ∷ edits) [] old new spell replied = absurd replied
 edits_done (line ∷ lines) (edit ∷ edits) (frame ∷ frames) old new spell replied =
     let here = edit_done line edit frame old replied.0 spell.0 replied.1.0 in
-    let later = edits_done lines edits frames replied.0 new spell.1 replied.2 in
-    (later.0 ∙ ap (λ t. after_all_hosted t replied.0.book lines) here.1 ∙ ap (λ b. after_all_hosted old.total b lines) here.0, later.1 ∙ here.1)
+    let later = edits_done lines edits frames replied.0 new spell.1 replied.2 in (
+      later.0 ∙ ap (λ t. after_all_hosted t replied.0.book lines) here.1 ∙ ap (λ b. after_all_hosted old.total b lines) here.0,
+      later.1 ∙ here.1,
+    )
 
 grouped : (lines : List Line) (frames : List Frame) (old new : LiveState) → DoesGroup lines frames old new → Follows lines old new
 grouped lines frames old new g = edits_done lines g.edits frames old.state new.state g.spell g.replied.replied
@@ -226,7 +235,8 @@ join_lines : (front rest : List Line) (total : ℕ) (book : List Series)
 join_lines [] rest total book = refl
 join_lines (line ∷ front) rest total book = join_lines front rest total (after_hosted total book line)
 
-joined : (front rest : List Line) (old between new : LiveState) → Follows front old between → Follows rest between new → Follows (front ++ rest) old new
+joined : (front rest : List Line) (old between new : LiveState) → Follows front old between → Follows rest between new
+    → Follows (front ++ rest) old new
 joined front rest old between new first later = (
   later.0 ∙ ap (λ t. after_all_hosted t between.state.book rest) first.1 ∙ ap (λ b. after_all_hosted old.state.total b rest) first.0
       ∙ sym (join_lines front rest old.state.total old.state.book),
@@ -252,7 +262,8 @@ events_follow (push ∷ later) frames old new is =
     joined [] (lines_in later) old is.between new (by_push is.happens.frame old is.between is.happens.pushed)
     (events_follow later is.more is.between new is.later)
 
-first_follow : (input : List ℕ) (frames : List Frame) (old new : LiveState) (first : FirstLines input frames old new) → Follows (told first.front) old new
+first_follow : (input : List ℕ) (frames : List Frame) (old new : LiveState) (first : FirstLines input frames old new)
+    → Follows (told first.front) old new
 first_follow input frames old new first =
     let F : List Line → Type 0 = λ lines. Follows lines old new in
     subst F first.hosted.lines_are (events_follow first.hosted.events frames old new first.hosted.happened)
@@ -343,5 +354,6 @@ quiet_left reads total book input next quiet left =
       split = left.split;
       requests = map said_by left.lines;
       said = reads left.lines;
-      next_is = left.next_is ∙ quiet_first left.later total left.between left.done none.1 ∙ left.between_is ∙ quiet_lines left.lines total book none.0;
+      next_is = left.next_is ∙ quiet_first left.later total left.between left.done none.1 ∙ left.between_is
+          ∙ quiet_lines left.lines total book none.0;
     }

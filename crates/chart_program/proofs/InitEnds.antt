@@ -31,21 +31,36 @@ caused old new init.DiskFault is = is
 caused old new init.NoMemory is = tt
 
 -- a disk that is too small turns it away
-pub away_unmade : (old new : View) (left left' before now : Option (List ℕ)) (cause : InitCause) → Prevents cause old new → left' ≡ left → now ≡ before → old.size < 128 → IsTurnedAway left left' before now (code_of (init_end cause))
-away_unmade old new left left' before now (init.TooSmall size) is same_left same few = record { codes = (2, omega arith, refl); left_is = same_left; sent_is = same }
+pub away_unmade : (old new : View) (left left' before now : Option (List ℕ)) (cause : InitCause) → Prevents cause old new → left' ≡ left
+    → now ≡ before → old.size < 128 → IsTurnedAway left left' before now (code_of (init_end cause))
+away_unmade old new left left' before now (init.TooSmall size) is same_left same few = record {
+  codes = (2, omega arith, refl);
+  left_is = same_left;
+  sent_is = same;
+}
 away_unmade old new left left' before now init.IsStore is same_left same few = absurd (omega (arith, few, is.0))
-away_unmade old new left left' before now init.DiskFault is same_left same few = record { codes = (1, omega arith, refl); left_is = same_left; sent_is = same }
-away_unmade old new left left' before now init.NoMemory is same_left same few = record { codes = (0, omega arith, refl); left_is = same_left; sent_is = same }
+away_unmade old new left left' before now init.DiskFault is same_left same few = record {
+  codes = (1, omega arith, refl);
+  left_is = same_left;
+  sent_is = same;
+}
+away_unmade old new left left' before now init.NoMemory is same_left same few = record {
+  codes = (0, omega arith, refl);
+  left_is = same_left;
+  sent_is = same;
+}
 
 -- the fault that it tells of is counted
-pub counts_unmade : (old new : View) (cause : InitCause) → Prevents cause old new → new.beside ≡ old.beside → ((cause ≡ init.DiskFault → ⊥) → new.faults ≡ old.faults) → CountsFault (end_fault (init_end cause)) old new
+pub counts_unmade : (old new : View) (cause : InitCause) → Prevents cause old new → new.beside ≡ old.beside
+    → ((cause ≡ init.DiskFault → ⊥) → new.faults ≡ old.faults) → CountsFault (end_fault (init_end cause)) old new
 counts_unmade old new (init.TooSmall size) is beside quiet = counts_no_disk old new beside (quiet (λ same. cc))
 counts_unmade old new init.IsStore is beside quiet = counts_no_disk old new beside (quiet (λ same. cc))
 counts_unmade old new init.DiskFault is beside quiet = counts_disk old new beside is
 counts_unmade old new init.NoMemory is beside quiet = counts_no_disk old new beside (quiet (λ same. cc))
 
 -- where a store fits and there is none, want of memory alone comes in its way
-pub unmade_ready : (old new : View) (cause : InitCause) → Prevents cause old new → IsFree old → (HasRisen old.faults new.faults → ⊥) → (init_end cause ≡ Done) ⊎ (init_end cause ≡ NoMemory)
+pub unmade_ready : (old new : View) (cause : InitCause) → Prevents cause old new → IsFree old → (HasRisen old.faults new.faults → ⊥)
+    → (init_end cause ≡ Done) ⊎ (init_end cause ≡ NoMemory)
 unmade_ready old new (init.TooSmall size) is free whole = absurd (omega (arith, is.0, is.1, free.0))
 unmade_ready old new init.IsStore is free whole = absurd (free.2 (is.1 free.1))
 unmade_ready old new init.DiskFault is free whole = absurd (whole is)
@@ -76,8 +91,10 @@ module _ (old new : View) (left left' before now : Option (List ℕ)) (faults : 
   ready_code end (inl is) = inl (ap (λ (x : End). code_of x) is)
   ready_code end (inr is) = inr (ap (λ (x : End). code_of x) is)
 
-  pub init_ends : (end : End) → IsInitEnd end old new → (old.size < 128 → IsTurnedAway left left' before now (code_of end)) → left' ≡ left → now ≡ before → LeavesDisk Init old new → (Honest old → Honest new)
-      → (IsFree old → (HasRisen old.faults new.faults → ⊥) → (end ≡ Done) ⊎ (end ≡ NoMemory)) → CommandEnds Init old new left left' before now faults (code_of end) (place_of end)
+  pub init_ends : (end : End) → IsInitEnd end old new → (old.size < 128 → IsTurnedAway left left' before now (code_of end)) → left' ≡ left
+      → now ≡ before → LeavesDisk Init old new → (Honest old → Honest new)
+      → (IsFree old → (HasRisen old.faults new.faults → ⊥) → (end ≡ Done) ⊎ (end ≡ NoMemory))
+      → CommandEnds Init old new left left' before now faults (code_of end) (place_of end)
   init_ends end is away untaken sent disk honest ready = by_code Init old new left left' before now faults end (record {
     came = init_came sent end is;
     own = init_own end is;

@@ -25,13 +25,16 @@ abbrev pub holds_of : List Holding → ℕ → Bool
 holds_of held n = is_some (holding_of n held)
 
 abbrev pub OthersStay : Type 0
-OthersStay = (frame : Frame) (drawing : Option Canvas) (old new : List Holding) (number : ℕ) → Accepts frame drawing old new → named_in frame ≢ Some number → holding_of number new ≡ holding_of number old
+OthersStay = (frame : Frame) (drawing : Option Canvas) (old new : List Holding) (number : ℕ) → Accepts frame drawing old new
+    → named_in frame ≢ Some number → holding_of number new ≡ holding_of number old
 
 abbrev pub OpeningHolds : Type 0
-OpeningHolds = (number size : ℕ) (drawing : Option Canvas) (old new : List Holding) → Accepts (Opened number size) drawing old new → holding_of number new ≡ Some (record { number = number; cache = record { pairs = []; capacity = size } })
+OpeningHolds = (number size : ℕ) (drawing : Option Canvas) (old new : List Holding) → Accepts (Opened number size) drawing old new
+    → holding_of number new ≡ Some (record { number = number; cache = record { pairs = []; capacity = size } })
 
 abbrev pub ViewHolds : Type 0
-ViewHolds = (view : ViewFrame) (holding : Holding) (drawing : Canvas) (old new : List Holding) → holding_of view.session old ≡ Some holding → (accepted : AcceptsView view holding.cache drawing old new)
+ViewHolds = (view : ViewFrame) (holding : Holding) (drawing : Canvas) (old new : List Holding) → holding_of view.session old ≡ Some holding
+    → (accepted : AcceptsView view holding.cache drawing old new)
     → holding_of view.session new ≡ Some (record { number = view.session; cache = viewed view holding.cache accepted.wanted })
 
 same_some : (m n : ℕ) → Some m ≡ Some n → m ≡ n
@@ -44,7 +47,8 @@ same_held : (n : ℕ) (old new : List Holding) → holding_of n new ≡ holding_
 same_held n old new same is = let P : Option Holding → Type 0 = λ x. IsTrue (is_some x) in subst P (sym same) is
 
 module _ (others : OthersStay) (opening : OpeningHolds) (viewing : ViewHolds) where
-  holds_next : (frame : Frame) (drawing : Option Canvas) (old new : List Holding) (n : ℕ) → Accepts frame drawing old new → IsTrue (opens frame n (holds_of old n)) → IsTrue (holds_of new n)
+  holds_next : (frame : Frame) (drawing : Option Canvas) (old new : List Holding) (n : ℕ) → Accepts frame drawing old new
+      → IsTrue (opens frame n (holds_of old n)) → IsTrue (holds_of new n)
   holds_next (Done slots) drawing old new n accepts is = same_held n old new (ap (λ l. holding_of n l) accepts.1) is
   holds_next (Refused number a b) drawing old new n accepts is = same_held n old new (ap (λ l. holding_of n l) accepts.1) is
   holds_next (Opened number size) drawing old new n accepts is = elim (eqb_tells number n) [
@@ -82,14 +86,19 @@ module _ (others : OthersStay) (opening : OpeningHolds) (viewing : ViewHolds) wh
 not_held : (o : Option Holding) → o ≡ None → IsTrue (is_some o) → ⊥
 not_held o none is = let P : Option Holding → Type 0 = λ x. IsTrue (is_some x) in let gone = subst P none is in cc
 
-known_rejects : (frame : Frame) (n : ℕ) (old : List Holding) → NamesKnown frame (holds_of old) → Rejects frame (client.UnknownSession n) old → ⊥
+known_rejects : (frame : Frame) (n : ℕ) (old : List Holding) → NamesKnown frame (holds_of old) → Rejects frame (client.UnknownSession n) old
+    → ⊥
 known_rejects (Done slots) n old named rejects = let e = rejects.0 in cc
 known_rejects (Refused number a b) n old named rejects = let e = rejects.0 in cc
 known_rejects (Opened number size) n old named rejects = let e = rejects.0 in cc
-known_rejects (Closed number) n old named rejects = let P : ℕ → Type 0 = λ m. IsTrue (holds_of old m) in not_held (holding_of n old) rejects.1 (subst P (same_some number n rejects.0) named)
-known_rejects (View view) n old named rejects = let P : ℕ → Type 0 = λ m. IsTrue (holds_of old m) in not_held (holding_of n old) rejects.1 (subst P (same_some view.session n rejects.0) named)
-known_rejects (Rows rows) n old named rejects = let P : ℕ → Type 0 = λ m. IsTrue (holds_of old m) in not_held (holding_of n old) rejects.1 (subst P (same_some rows.session n rejects.0) named)
-known_rejects (Live session on) n old named rejects = let P : ℕ → Type 0 = λ m. IsTrue (holds_of old m) in not_held (holding_of n old) rejects.1 (subst P (same_some session n rejects.0) named)
+known_rejects (Closed number) n old named rejects = let P : ℕ → Type 0 = λ m. IsTrue (holds_of old m) in
+    not_held (holding_of n old) rejects.1 (subst P (same_some number n rejects.0) named)
+known_rejects (View view) n old named rejects = let P : ℕ → Type 0 = λ m. IsTrue (holds_of old m) in
+    not_held (holding_of n old) rejects.1 (subst P (same_some view.session n rejects.0) named)
+known_rejects (Rows rows) n old named rejects = let P : ℕ → Type 0 = λ m. IsTrue (holds_of old m) in
+    not_held (holding_of n old) rejects.1 (subst P (same_some rows.session n rejects.0) named)
+known_rejects (Live session on) n old named rejects = let P : ℕ → Type 0 = λ m. IsTrue (holds_of old m) in
+    not_held (holding_of n old) rejects.1 (subst P (same_some session n rejects.0) named)
 known_rejects (Report report) n old named rejects = let e = rejects.0 in cc
 
 -- a screen that knows the open sessions misses none

@@ -19,15 +19,28 @@ use Rattle.chart_program.proofs.EndsByCode.{Came, by_code, completes}
 use Rattle.chart_program.proofs.LivePage.{good_live}
 
 abbrev pub passed : (left left' before now : Option (List ℕ)) → Faults → Traffic
-passed left left' before now faults = record { left = left; left_now = left'; sent = before; sent_now = now; reads = faults.reads; reads_now = faults.reads_now; sends = faults.sends; sends_now = faults.sends_now }
+passed left left' before now faults = record {
+  left = left;
+  left_now = left';
+  sent = before;
+  sent_now = now;
+  reads = faults.reads;
+  reads_now = faults.reads_now;
+  sends = faults.sends;
+  sends_now = faults.sends_now;
+}
 
-taken : (old new : View) (left left' before now : Option (List ℕ)) → IfSome left (λ input. LivesTaken (page_count old.size) old new input left' before now) → IfSome left (λ input. IfSome left' (λ bytes. LivesTaken (page_count old.size) old new input (Some bytes) before now))
+taken : (old new : View) (left left' before now : Option (List ℕ))
+    → IfSome left (λ input. LivesTaken (page_count old.size) old new input left' before now)
+    → IfSome left (λ input. IfSome left' (λ bytes. LivesTaken (page_count old.size) old new input (Some bytes) before now))
 taken old new None left' before now all = tt
 taken old new (Some input) None before now all = tt
 taken old new (Some input) (Some bytes) before now all = all
 
 module _ (old new : View) (left left' before now : Option (List ℕ)) (faults : Faults) where
-  live_came : (end : End) → IsLiveCause end old new (passed left left' before now faults) → DoesLive (page_count old.size) old new (passed left left' before now faults) end → Came Live old new left left' before now faults end
+  live_came : (end : End) → IsLiveCause end old new (passed left left' before now faults)
+      → DoesLive (page_count old.size) old new (passed left left' before now faults) end
+      → Came Live old new left left' before now faults end
   live_came Done cause does = (cause, does, tt)
   live_came NoMemory cause does = does
   live_came ReadFault cause does = (cause, taken old new left left' before now does)
@@ -51,7 +64,10 @@ module _ (old new : View) (left left' before now : Option (List ℕ)) (faults : 
   live_own (TooSmall blocks) cause = (7, omega arith, refl)
   live_own end cause = absurd cause
 
-  pub live_ends : (end : End) → LiveEnds old new (passed left left' before now faults) end → (old.size < 128 → IsTurnedAway left left' before now (code_of end)) → IfSome left (λ input. ReadsLiving old new input) → IfSome left (λ input. SyncsLiving old new input) → CommandEnds Live old new left left' before now faults (code_of end) (place_of end)
+  pub live_ends : (end : End) → LiveEnds old new (passed left left' before now faults) end
+      → (old.size < 128 → IsTurnedAway left left' before now (code_of end)) → IfSome left (λ input. ReadsLiving old new input)
+      → IfSome left (λ input. SyncsLiving old new input)
+      → CommandEnds Live old new left left' before now faults (code_of end) (place_of end)
   live_ends end e away reads syncs = by_code Live old new left left' before now faults end (record {
     came = live_came end e.cause e.does;
     own = live_own end e.cause;

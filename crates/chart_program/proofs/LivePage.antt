@@ -28,7 +28,8 @@ module _ (old new : View) (t : Traffic) where
 
   -- what was answered and sent for an input, by the book that the disk held
   abbrev Answers : End → List ℕ → Type 0
-  Answers end input = OfBook (page_count old.size) old (λ total book. EndsSo (Holds (page_count old.size) total new) input (begun_live total book) t.left_now t.sent t.sent_now end)
+  Answers end input = OfBook (page_count old.size) old
+      (λ total book. EndsSo (Holds (page_count old.size) total new) input (begun_live total book) t.left_now t.sent t.sent_now end)
 
   live_does : (end : End) → IsLiveCause end old new t → IfSome t.left (Answers end) → LiveDoes at end
   live_does Done cause does = (cause, does)
@@ -62,7 +63,8 @@ module _ (old new : View) (t : Traffic) where
   live_passed Done answered = answered refl
   live_passed end answered = tt
 
-  pub of_live : (end : End) → LiveEnds old new t end → TurnsAway old t (status_of end) → IfSome t.left (ReadsLiving old new) → IfSome t.left (SyncsLiving old new) → (end ≡ Done → AreAnswered)
+  pub of_live : (end : End) → LiveEnds old new t end → TurnsAway old t (status_of end) → IfSome t.left (ReadsLiving old new)
+      → IfSome t.left (SyncsLiving old new) → (end ≡ Done → AreAnswered)
       → IsBlamedBy MayAnswerLive followed_after Blames at end → OfLive at end
   of_live end e away reads syncs answered blamed = record {
     does = live_does end e.cause e.does;

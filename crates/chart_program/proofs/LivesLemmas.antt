@@ -8,7 +8,8 @@ use Rattle.disk_store.specs.Held.{HoldsBook}
 use Rattle.stored_book.specs.Standing.{StandsForBook, book_pages, RecoversTo}
 use Rattle.series_load.specs.Sets.{IsNamed, Loads}
 use Rattle.program_words.specs.declared.words.Command.{Command}
-use Rattle.program_words.specs.declared.words.Command.TheVariants.{Plot, Load, Demo, Run, Serve, Draw, Init, Check, ListSeries, Export, Retain, Cover, Live, Host, Derive}
+use Rattle.program_words.specs.declared.words.Command.TheVariants.{Plot, Load, Demo, Run, Serve, Draw, Init, Check, ListSeries, Export}
+use Rattle.program_words.specs.declared.words.Command.TheVariants.{Retain, Cover, Live, Host, Derive}
 use Rattle.store_commands.specs.Books.{begun}
 use Rattle.store_commands.proofs.HoldsAgain.{series_there}
 use Rattle.store_commands.specs.Loaded.{IsAheadLoad}
@@ -16,7 +17,8 @@ use Rattle.demo_workload.specs.Demonstrated.{IsAheadDemo}
 use Rattle.demo_workload.specs.Workload.{workload}
 use Rattle.chart_program.specs.HostLines.{LeavesHostLines}
 use Rattle.chart_program.proofs.HostRuns.{host_left, host_left_amid}
-use Rattle.chart_program.specs.Lives.{Life, AreLives, IsLife, IsLived, BeginsOn, IsLeftAt, LeavesFrom, IsAfterLines, IsAfterSets, IsAfterRequests, Outlives, AreBooks, life_of}
+use Rattle.chart_program.specs.Lives.{Life, AreLives, IsLife, IsLived, BeginsOn, IsLeftAt, LeavesFrom, IsAfterLines, IsAfterSets}
+use Rattle.chart_program.specs.Lives.{IsAfterRequests, Outlives, AreBooks, life_of}
 use Rattle.chart_program.specs.Ran.{Leaves, LeavesTold}
 use Rattle.chart_program.specs.Served.{Says, Spelled, AreTexts, IsAheadOn}
 use Rattle.retain_command.specs.Sweeping.{IsAhead as IsAheadBy}
@@ -69,27 +71,40 @@ run_lives Derive input old new begins left at b leaves is = λ total book recove
     (leaves total book (begun_holds (page_count old.size) total book begins old b recovers)).here at left is.0 is.1.0 is.1.1
 
 -- where the input and what was sent are told
-pub lives_told : (command : Command) (old new : View) (left before now : Option (List ℕ)) → IfSome left (λ input. LeavesTold command old new input before now) → IfSome left (λ input. IsLived command old new input before now)
+pub lives_told : (command : Command) (old new : View) (left before now : Option (List ℕ))
+    → IfSome left (λ input. LeavesTold command old new input before now) → IfSome left (λ input. IsLived command old new input before now)
 lives_told command old new None before now leaves = tt
 lives_told command old new (Some input) None now leaves = tt
-lives_told command old new (Some input) (Some bytes) now leaves = λ begins crashed at b is. run_lives command input old new begins crashed at b leaves is
+lives_told command old new (Some input) (Some bytes) now leaves = λ begins crashed at b is.
+    run_lives command input old new begins crashed at b leaves is
 
 -- ---- what one life leaves
 
 abbrev pub OneBook : Type 0
-OneBook = (image : Image) (total total' : ℕ) (book book' : List Series) → StandsForBook image total book → StandsForBook image total' book' → book' ≡ book
+OneBook = (image : Image) (total total' : ℕ) (book book' : List Series) → StandsForBook image total book → StandsForBook image total' book'
+    → book' ≡ book
 
 abbrev pub Left : Command → List ℕ → ℕ → ℕ → List Series → ℕ → Image → ℕ → Type 0
-Left command input count total book from left sent = (next : List Series) × Outlives command input total book next from sent × RecoversTo count left total next
+Left command input count total book from left sent = (next : List Series) × Outlives command input total book next from sent
+    × RecoversTo count left total next
 
-left_lines : (IsText : Says) (input : List ℕ) (count total : ℕ) (book : List Series) (from : ℕ) (left : Image) (sent : ℕ) → IsAheadOn (IsText (begun total book)) input count total (begun total book) from left sent
+left_lines : (IsText : Says) (input : List ℕ) (count total : ℕ) (book : List Series) (from : ℕ) (left : Image) (sent : ℕ)
+    → IsAheadOn (IsText (begun total book)) input count total (begun total book) from left sent
     → (next : List Series) × IsAfterLines (IsText (begun total book)) input total book next from sent × RecoversTo count left total next
 left_lines IsText input count total book from left sent is =
     let a = is.ahead in
     elim a.state [
       | inl here ↦ (
         a.between.book,
-        record { front = a.front; rest = a.rest; begins_with = a.begins; between = a.between; text = a.text; answers = a.answers; state = inl (refl, here.1) },
+        record {
+          front = a.front;
+          rest = a.rest;
+          begins_with = a.begins;
+          between = a.between;
+          text = a.text;
+          answers = a.answers;
+          state = inl (refl, here.1);
+        },
         record { readable = is.readable; within = is.within; old = is.old; stands = here.0 },
       )
       | inr next ↦ (
@@ -107,7 +122,8 @@ left_lines IsText input count total book from left sent is =
       )
     ]
 
-left_sets : OneBook → (name input : List ℕ) (count total : ℕ) (book : List Series) (series : Series) (from : ℕ) (left : Image) (sent : ℕ) → IsNamed book name series → IsAheadLoad count total name book series input from left sent
+left_sets : OneBook → (name input : List ℕ) (count total : ℕ) (book : List Series) (series : Series) (from : ℕ) (left : Image) (sent : ℕ)
+    → IsNamed book name series → IsAheadLoad count total name book series input from left sent
     → (next : List Series) × IsAfterSets total name input book next from sent × RecoversTo count left total next
 left_sets one name input count total book series from left sent named is =
     let after = is.some.after in (
@@ -127,7 +143,8 @@ left_sets one name input count total book series from left sent named is =
       record { readable = is.readable; within = is.within; old = is.old; stands = after.stands },
     )
 
-left_requests : OneBook → (seed rounds count total : ℕ) (book : List Series) (from : ℕ) (left : Image) (sent : ℕ) → IsAheadDemo (workload seed rounds) count total (begun total book) from left sent
+left_requests : OneBook → (seed rounds count total : ℕ) (book : List Series) (from : ℕ) (left : Image) (sent : ℕ)
+    → IsAheadDemo (workload seed rounds) count total (begun total book) from left sent
     → (next : List Series) × IsAfterRequests seed rounds total book next from sent × RecoversTo count left total next
 left_requests one seed rounds count total book from left sent is =
     let p = is.some in (
@@ -143,7 +160,8 @@ left_requests one seed rounds count total book from left sent is =
       record { readable = is.readable; within = is.within; old = is.old; stands = p.stands },
     )
 
-left_load : OneBook → (name input : List ℕ) (count total : ℕ) (book : List Series) (from : ℕ) (left : Image) (sent : ℕ) → LeavesFrom (Load name) input count total book from left sent → Left (Load name) input count total book from left sent
+left_load : OneBook → (name input : List ℕ) (count total : ℕ) (book : List Series) (from : ℕ) (left : Image) (sent : ℕ)
+    → LeavesFrom (Load name) input count total book from left sent → Left (Load name) input count total book from left sent
 left_load one name input count total book from left sent leaves =
     (elim (id_of name book) as (λ o. id_of name book ≡ o → Left (Load name) input count total book from left sent) [
       | None ↦ λ none. (book, inr (none, refl), leaves.1 none)
@@ -155,10 +173,23 @@ left_load one name input count total book from left sent leaves =
     ]) refl
 
 -- some lines were answered, and some pushes made
-left_lived : (input : List ℕ) (count total : ℕ) (book : List Series) (from : ℕ) (left : Image) (sent : ℕ) → IsAheadLive (λ after. RecoversTo count left total after) input (begun_live total book) from sent
+left_lived : (input : List ℕ) (count total : ℕ) (book : List Series) (from : ℕ) (left : Image) (sent : ℕ)
+    → IsAheadLive (λ after. RecoversTo count left total after) input (begun_live total book) from sent
     → (next : List Series) × IsAheadLive (λ after. next ≡ after) input (begun_live total book) from sent × RecoversTo count left total next
-left_lived input count total book from left sent is =
-    (is.state.state.book, record { shown = is.shown; more = is.more; few = is.few; state = is.state; first = is.first; there = refl; low = is.low; high = is.high }, is.there)
+left_lived input count total book from left sent is = (
+  is.state.state.book,
+  record {
+    shown = is.shown;
+    more = is.more;
+    few = is.few;
+    state = is.state;
+    first = is.first;
+    there = refl;
+    low = is.low;
+    high = is.high;
+  },
+  is.there,
+)
 
 -- so where edits are done together, and by what the lines say and ask
 left_hosted : (input : List ℕ) (count total : ℕ) (book : List Series) (from : ℕ) (left : Image) (sent : ℕ)
@@ -171,14 +202,24 @@ left_hosted input count total book from left sent is = elim is.there [
     is.state.state.book,
     (
       host_left input total book (is.shown ++ is.more) is.state is.first,
-      record { shown = is.shown; more = is.more; few = is.few; state = is.state; first = is.first; there = inl refl; low = is.low; high = is.high },
+      record {
+        shown = is.shown;
+        more = is.more;
+        few = is.few;
+        state = is.state;
+        first = is.first;
+        there = inl refl;
+        low = is.low;
+        high = is.high;
+      },
     ),
     here,
   )
   | inr amid ↦ (
     _,
     (
-      host_left_amid input total book (is.shown ++ is.more) is.state is.first amid.line amid.later amid.rule amid.done amid.lines_are amid.asks,
+      host_left_amid input total book (is.shown ++ is.more) is.state is.first amid.line amid.later amid.rule amid.done amid.lines_are
+          amid.asks,
       record {
         shown = is.shown;
         more = is.more;
@@ -206,11 +247,29 @@ left_hosted input count total book from left sent is = elim is.there [
 ]
 
 -- some lines were swept, and some first clears of the next one done
-left_swept : (input : List ℕ) (count total : ℕ) (book : List Series) (from : ℕ) (left : Image) (sent : ℕ) → IsAheadBy (λ after. RecoversTo count left total after) total book input from sent
+left_swept : (input : List ℕ) (count total : ℕ) (book : List Series) (from : ℕ) (left : Image) (sent : ℕ)
+    → IsAheadBy (λ after. RecoversTo count left total after) total book input from sent
     → (next : List Series) × IsAheadBy (λ after. next ≡ after) total book input from sent × RecoversTo count left total next
 left_swept input count total book from left sent is = elim is.state [
   | inl here ↦ (_, record { first = is.first; state = inl (refl, here.1) }, here.0)
-  | inr next ↦ (_, record { first = is.first; state = inr (record { rule = next.rule; next = next.next; done = next.done; few = next.few; there = refl; low = next.low; high = next.high; all = next.all }) }, next.there)
+  | inr next ↦ (
+    _,
+    record {
+      first = is.first;
+      state = inr
+          (record {
+            rule = next.rule;
+            next = next.next;
+            done = next.done;
+            few = next.few;
+            there = refl;
+            low = next.low;
+            high = next.high;
+            all = next.all;
+          });
+    },
+    next.there,
+  )
 ]
 
 pub left_by : OneBook → (command : Command) (input : List ℕ) (count total : ℕ) (book : List Series) (from : ℕ) (left : Image) (sent : ℕ)
@@ -223,7 +282,8 @@ left_by one Init input count total book from left sent leaves = (book, refl, lea
 left_by one Run input count total book from left sent leaves = left_lines AreTexts input count total book from left sent leaves
 left_by one Serve input count total book from left sent leaves = left_lines Spelled input count total book from left sent leaves
 left_by one (Load name) input count total book from left sent leaves = left_load one name input count total book from left sent leaves
-left_by one (Demo seed rounds) input count total book from left sent leaves = left_requests one seed rounds count total book from left sent leaves
+left_by one (Demo seed rounds) input count total book from left sent leaves = left_requests one seed rounds count total book from left sent
+    leaves
 left_by one Check input count total book from left sent leaves = (book, refl, leaves)
 left_by one ListSeries input count total book from left sent leaves = (book, refl, leaves)
 left_by one (Export name window) input count total book from left sent leaves = (book, refl, leaves)
@@ -234,7 +294,8 @@ left_by one Derive input count total book from left sent leaves = (book, refl, l
 
 -- ---- lives in a row
 
-pub lives_left : OneBook → (count total : ℕ) (book : List Series) (image : Image) (lives : List Life) → AreLives count image lives → RecoversTo count image total book → AreBooks count total book lives
+pub lives_left : OneBook → (count total : ℕ) (book : List Series) (image : Image) (lives : List Life) → AreLives count image lives
+    → RecoversTo count image total book → AreBooks count total book lives
 lives_left one count total book image [] are recovers = tt
 lives_left one count total book image (life ∷ lives) are recovers =
     let P : Image → Type 0 = λ i. RecoversTo count i total book in

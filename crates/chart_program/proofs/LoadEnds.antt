@@ -31,14 +31,28 @@ refused_never at number (suc (suc (suc k)), inside, is) = absurd (omega (arith, 
 
 module _ (name : List ℕ) (old new : View) (left left' before now : Option (List ℕ)) (faults : Faults) where
   abbrev passed : Traffic
-  passed = record { left = left; left_now = left'; sent = before; sent_now = now; reads = faults.reads; reads_now = faults.reads_now; sends = faults.sends; sends_now = faults.sends_now }
+  passed = record {
+    left = left;
+    left_now = left';
+    sent = before;
+    sent_now = now;
+    reads = faults.reads;
+    reads_now = faults.reads_now;
+    sends = faults.sends;
+    sends_now = faults.sends_now;
+  }
 
-  unknown_told : (l : Option (List ℕ)) → left' ≡ l → HasNone (page_count old.size) old name → OfBook (page_count old.size) old (λ total book. HoldsBook (page_count old.size) total book new)
+  unknown_told : (l : Option (List ℕ)) → left' ≡ l → HasNone (page_count old.size) old name
+      → OfBook (page_count old.size) old (λ total book. HoldsBook (page_count old.size) total book new)
       → IfSome l (λ input. IsRefused (Load name) old new input left' 8)
   unknown_told None same none holds = tt
-  unknown_told (Some input) same none holds = ((λ total book held series named. absurd (none total book held series named)), (λ total book held unnamed. (refl, same, holds total book held)))
+  unknown_told (Some input) same none holds = (
+    (λ total book held series named. absurd (none total book held series named)),
+    (λ total book held unnamed. (refl, same, holds total book held)),
+  )
 
-  refused_told : (at number : ℕ) (l : Option (List ℕ)) → IfSome l (λ input. RefusesRun name (page_count old.size) old new input at number) → Unnamed (page_count old.size) old name (λ total book. Contains unnamed_ends (Refused at number))
+  refused_told : (at number : ℕ) (l : Option (List ℕ)) → IfSome l (λ input. RefusesRun name (page_count old.size) old new input at number)
+      → Unnamed (page_count old.size) old name (λ total book. Contains unnamed_ends (Refused at number))
       → IfSome l (λ input. IsRefused (Load name) old new input left' (refused_at at number))
   refused_told at number None refused unnamed = tt
   refused_told at number (Some input) refused unnamed = (
@@ -48,7 +62,9 @@ module _ (name : List ℕ) (old new : View) (left left' before now : Option (Lis
     (λ total book held none. absurd (refused_never at number (unnamed total book held none))),
   )
 
-  load_came : (end : End) → IsLoadEnd end name old new passed → Unnamed (page_count old.size) old name (λ total book. Contains unnamed_ends end) → Came (Load name) old new left left' before now faults end
+  load_came : (end : End) → IsLoadEnd end name old new passed
+      → Unnamed (page_count old.size) old name (λ total book. Contains unnamed_ends end)
+      → Came (Load name) old new left left' before now faults end
   load_came Done is unnamed = (is.0, is.1, tt)
   load_came NoMemory is unnamed = is.0
   load_came ReadFault is unnamed = (is.0, is.1)
@@ -90,7 +106,9 @@ module _ (name : List ℕ) (old new : View) (left left' before now : Option (Lis
   load_unsent (Refused at number) is whole part = is.1
   load_unsent end is whole part = is.2
 
-  pub load_ends : (end : End) → LoadEnds name old new passed end → (old.size < 128 → IsTurnedAway left left' before now (code_of end)) → (end ≢ DiskFault → HoldsAgain (page_count old.size) old new) → CommandEnds (Load name) old new left left' before now faults (code_of end) (place_of end)
+  pub load_ends : (end : End) → LoadEnds name old new passed end → (old.size < 128 → IsTurnedAway left left' before now (code_of end))
+      → (end ≢ DiskFault → HoldsAgain (page_count old.size) old new)
+      → CommandEnds (Load name) old new left left' before now faults (code_of end) (place_of end)
   load_ends end e away holds = by_code (Load name) old new left left' before now faults end (record {
     came = load_came end e.is e.unnamed;
     own = load_own end e.is;

@@ -38,7 +38,8 @@ module _ (name : List ℕ) (old new : View) (t : Traffic) where
   load_does end is = absurd is.0
 
   -- with good input it is done, a stream fails, or there is no memory
-  load_good : (input : List ℕ) → t.left ≡ Some input → AreReadings name old new input → (end : End) → IsLoadEnd end name old new t → IsDoneOrCut end
+  load_good : (input : List ℕ) → t.left ≡ Some input → AreReadings name old new input → (end : End) → IsLoadEnd end name old new t
+      → IsDoneOrCut end
   load_good input told r Done is = tt
   load_good input told r NoMemory is = tt
   load_good input told r ReadFault is = tt
@@ -46,18 +47,23 @@ module _ (name : List ℕ) (old new : View) (t : Traffic) where
   load_good input told r DiskFault is = absurd (r.whole is.0)
   load_good input told r (DamagedPage page) is = absurd (is.1 r.total r.book r.holds)
   load_good input told r (BadInput offset) is =
-      let bad = of_input t.left input (λ bytes. LoadsToBad name (page_count old.size) old new bytes offset) told is.0 r.total r.book r.holds r.series r.named in
+      let bad = of_input t.left input (λ bytes. LoadsToBad name (page_count old.size) old new bytes offset) told is.0 r.total r.book r.holds
+      r.series r.named in
       absurd (r.none_bad offset _ bad.on.so)
   load_good input told r InputTooLong is =
-      let much = of_input t.left input (λ bytes. LoadsWithin name (page_count old.size) old new bytes) told is.1 r.total r.book r.holds r.series r.named in
+      let much = of_input t.left input (λ bytes. LoadsWithin name (page_count old.size) old new bytes) told is.1 r.total r.book r.holds
+      r.series r.named in
       absurd (omega (arith, r.short, much.on.so.past))
   load_good input told r UnknownSeries is = absurd (is.0 r.total r.book r.holds r.series r.named)
   load_good input told r (Refused offset number) is =
-      let refused = of_input t.left input (λ bytes. RefusesRun name (page_count old.size) old new bytes offset number) told is.0 r.total r.book r.holds r.series r.named in
+      let refused = of_input t.left input (λ bytes. RefusesRun name (page_count old.size) old new bytes offset number) told is.0 r.total
+      r.book r.holds r.series r.named in
       absurd (r.none_refused offset refused.refusal _ refused.so.on.so)
-  load_good input told r end is = unopened_good old new (record { total = r.total; book = r.book; holds = r.holds; whole = r.whole }) end is.0
+  load_good input told r end is = unopened_good old new
+      (record { total = r.total; book = r.book; holds = r.holds; whole = r.whole }) end is.0
 
-  good_of : (left : Option (List ℕ)) → t.left ≡ left → (end : End) → IsLoadEnd end name old new t → IfSome left (λ input. AreReadings name old new input → IsDoneOrCut end)
+  good_of : (left : Option (List ℕ)) → t.left ≡ left → (end : End) → IsLoadEnd end name old new t
+      → IfSome left (λ input. AreReadings name old new input → IsDoneOrCut end)
   good_of None told end is = tt
   good_of (Some input) told end is = λ r. load_good input told r end is
 

@@ -1,12 +1,14 @@
 -- Words are those of one command at most.
-use Rattle.std.proofs.Common.{◌≡◌, ℕ, ℤ, ◌+◌, ◌*◌, List, [], length, Option, Some, None, drop, get_or, refl, ap, ap₂, sym, subst, ◌∙◌, arith}
+use Rattle.std.proofs.Common.{◌≡◌, ℕ, ℤ, ◌+◌, ◌*◌, List, [], length, Option, Some, None, drop, get_or, refl, ap, ap₂, sym, subst, ◌∙◌}
+use Rattle.std.proofs.Common.{arith}
 use Rattle.std.proofs.lemmas.Fmt.{decimal_injective}
 use Rattle.std.specs.Fmt.{signed_decimal}
 use Rattle.whole_number.proofs.Digits.{one_integer}
 use Rattle.whole_number.specs.Range.{IsTime}
 use Rattle.series_export.specs.declared.window.Window.{Window}
 use Rattle.program_words.specs.declared.words.Command.{Command}
-use Rattle.program_words.specs.declared.words.Command.TheVariants.{Plot, Load, Demo, Run, Serve, Draw, Init, Check, ListSeries, Export, Retain, Cover, Live, Host, Derive}
+use Rattle.program_words.specs.declared.words.Command.TheVariants.{Plot, Load, Demo, Run, Serve, Draw, Init, Check, ListSeries, Export}
+use Rattle.program_words.specs.declared.words.Command.TheVariants.{Retain, Cover, Live, Host, Derive}
 use Rattle.program_words.specs.Words.{IsWindowIfAny, Spells, window_words, word_of}
 use Rattle.run_ends.specs.declared.status.Status.{Status}
 use Rattle.chart_program.specs.Course.{Course}
@@ -27,7 +29,8 @@ numbered (Export name window) words is = ap (λ (l : List (List ℕ)). number (w
 numbered (Cover every) words is = ap (λ (l : List (List ℕ)). number (word_at 0 l)) is.0
 numbered command words is = ap (λ (l : List (List ℕ)). number (word_at 0 l)) is
 
-same_number : (command own : Command) (words : List (List ℕ)) → Spells command words → Spells own words → number (word_of command) ≡ number (word_of own)
+same_number : (command own : Command) (words : List (List ℕ)) → Spells command words → Spells own words
+    → number (word_of command) ≡ number (word_of own)
 same_number command own words is other = sym (numbered command words is) ∙ numbered own words other
 
 -- ---- the operands
@@ -56,26 +59,32 @@ one_plot (Plot v g) w h words is other =
     ap₂ Plot wide high
 one_plot command w h words is other = absurd (omega (arith, same_number command (Plot w h) words is other))
 
-one_load : (command : Command) (name : List ℕ) (words : List (List ℕ)) → Spells command words → Spells (Load name) words → command ≡ Load name
+one_load : (command : Command) (name : List ℕ) (words : List (List ℕ)) → Spells command words → Spells (Load name) words
+    → command ≡ Load name
 one_load (Load its) name words is other = ap Load (ap (word_at 1) (sym is.0 ∙ other.0))
 one_load command name words is other = absurd (omega (arith, same_number command (Load name) words is other))
 
-one_demo : (command : Command) (seed rounds : ℕ) (words : List (List ℕ)) → Spells command words → Spells (Demo seed rounds) words → command ≡ Demo seed rounds
+one_demo : (command : Command) (seed rounds : ℕ) (words : List (List ℕ)) → Spells command words → Spells (Demo seed rounds) words
+    → command ≡ Demo seed rounds
 one_demo (Demo its count) seed rounds words is other =
     let same = sym is.0 ∙ other.0 in
     let one : its ≡ seed = decimal_injective its seed is.1 other.1 (ap (word_at 1) same) in
-    let many : count ≡ rounds = decimal_injective count rounds (omega (arith, is.2.most)) (omega (arith, other.2.most)) (ap (word_at 2) same) in
+    let many : count ≡ rounds = decimal_injective count rounds (omega (arith, is.2.most)) (omega (arith, other.2.most))
+    (ap (word_at 2) same) in
     ap₂ Demo one many
 one_demo command seed rounds words is other = absurd (omega (arith, same_number command (Demo seed rounds) words is other))
 
-one_export : (command : Command) (name : List ℕ) (window : Option Window) (words : List (List ℕ)) → Spells command words → Spells (Export name window) words → command ≡ Export name window
+one_export : (command : Command) (name : List ℕ) (window : Option Window) (words : List (List ℕ)) → Spells command words
+    → Spells (Export name window) words → command ≡ Export name window
 one_export (Export its own) name window words is other =
     let same = sym is.0 ∙ other.0 in
     ap₂ Export (ap (word_at 1) same) (one_window own window is.2 other.2 (ap (drop 2) same))
 one_export command name window words is other = absurd (omega (arith, same_number command (Export name window) words is other))
 
-one_cover : (command : Command) (every : ℕ) (words : List (List ℕ)) → Spells command words → Spells (Cover every) words → command ≡ Cover every
-one_cover (Cover its) every words is other = ap Cover (decimal_injective its every (omega (arith, is.1.most)) (omega (arith, other.1.most)) (ap (word_at 1) (sym is.0 ∙ other.0)))
+one_cover : (command : Command) (every : ℕ) (words : List (List ℕ)) → Spells command words → Spells (Cover every) words
+    → command ≡ Cover every
+one_cover (Cover its) every words is other = ap Cover
+    (decimal_injective its every (omega (arith, is.1.most)) (omega (arith, other.1.most)) (ap (word_at 1) (sym is.0 ∙ other.0)))
 one_cover command every words is other = absurd (omega (arith, same_number command (Cover every) words is other))
 
 one_run : (command : Command) (words : List (List ℕ)) → Spells command words → Spells Run words → command ≡ Run
@@ -136,7 +145,8 @@ one_command command Host words is other = one_host command words is other
 one_command command Derive words is other = one_derive command words is other
 
 -- what the command did that the words were read as, the one did that they spell
-pub by_words : (command own : Command) (words : List (List ℕ)) (c : Course) (status : Status) → Spells command words → Spells own words → Does command c status → Does own c status
+pub by_words : (command own : Command) (words : List (List ℕ)) (c : Course) (status : Status) → Spells command words → Spells own words
+    → Does command c status → Does own c status
 by_words command own words c status is other does =
     let P : Command → Type 0 = λ x. Does x c status in
     subst P (one_command command own words is other) does

@@ -21,17 +21,29 @@ use Rattle.chart_program.proofs.Counts.{told_any}
 use Rattle.chart_program.proofs.EndsByCode.{Came, by_code, completes}
 use Rattle.chart_program.proofs.RetainPage.{of_retain}
 
-taken : (old new : View) (left left' before now : Option (List ℕ)) → IfSome left (λ input. RetainsTaken (page_count old.size) old new input left' before now) → IfSome left (λ input. IfSome left' (λ bytes. RetainsTaken (page_count old.size) old new input (Some bytes) before now))
+taken : (old new : View) (left left' before now : Option (List ℕ))
+    → IfSome left (λ input. RetainsTaken (page_count old.size) old new input left' before now)
+    → IfSome left (λ input. IfSome left' (λ bytes. RetainsTaken (page_count old.size) old new input (Some bytes) before now))
 taken old new None left' before now all = tt
 taken old new (Some input) None before now all = tt
 taken old new (Some input) (Some bytes) before now all = all
 
 module _ (old new : View) (left left' before now : Option (List ℕ)) (faults : Faults) where
   abbrev passed : Traffic
-  passed = record { left = left; left_now = left'; sent = before; sent_now = now; reads = faults.reads; reads_now = faults.reads_now; sends = faults.sends; sends_now = faults.sends_now }
+  passed = record {
+    left = left;
+    left_now = left';
+    sent = before;
+    sent_now = now;
+    reads = faults.reads;
+    reads_now = faults.reads_now;
+    sends = faults.sends;
+    sends_now = faults.sends_now;
+  }
 
   abbrev Sweeps : End → Type 0
-  Sweeps end = IfSome left (λ input. OfBook (page_count old.size) old (λ total book. EndsSo (Holds (page_count old.size) total new) total book input left' before now end))
+  Sweeps end = IfSome left (λ input. OfBook (page_count old.size) old
+      (λ total book. EndsSo (Holds (page_count old.size) total new) total book input left' before now end))
 
   retain_came : (end : End) → IsRetainCause end old new passed → Sweeps end → Came Retain old new left left' before now faults end
   retain_came Done cause does = (cause, does, tt)
@@ -61,7 +73,8 @@ module _ (old new : View) (left left' before now : Option (List ℕ)) (faults : 
   retain_own (NoSeries at) cause = (9, omega arith, refl)
   retain_own end cause = absurd cause
 
-  pub retain_ends : (end : End) → RetainEnds old new passed end → (old.size < 128 → IsTurnedAway left left' before now (code_of end)) → CommandEnds Retain old new left left' before now faults (code_of end) (place_of end)
+  pub retain_ends : (end : End) → RetainEnds old new passed end → (old.size < 128 → IsTurnedAway left left' before now (code_of end))
+      → CommandEnds Retain old new left left' before now faults (code_of end) (place_of end)
   retain_ends end e away = by_code Retain old new left left' before now faults end (record {
     came = retain_came end e.cause e.does;
     own = retain_own end e.cause;

@@ -22,7 +22,8 @@ module _ (old new : View) (t : Traffic) where
 
   -- what was swept and sent for an input, by the book that the disk held
   abbrev Sweeps : End → List ℕ → Type 0
-  Sweeps end input = OfBook (page_count old.size) old (λ total book. EndsSo (Holds (page_count old.size) total new) total book input t.left_now t.sent t.sent_now end)
+  Sweeps end input = OfBook (page_count old.size) old
+      (λ total book. EndsSo (Holds (page_count old.size) total new) total book input t.left_now t.sent t.sent_now end)
 
   retain_does : (end : End) → IsRetainCause end old new t → IfSome t.left (Sweeps end) → RetainDoes at end
   retain_does Done cause does = (cause, does)
@@ -39,15 +40,18 @@ module _ (old new : View) (t : Traffic) where
   retain_does end cause does = absurd cause
 
   -- with good input it is done, a stream fails, or there is no memory
-  retain_good : (end : End) → IsRetainCause end old new t → (input : List ℕ) → Sweeps end input → AreRetained old new input → IsDoneOrCut end
+  retain_good : (end : End) → IsRetainCause end old new t → (input : List ℕ) → Sweeps end input → AreRetained old new input
+      → IsDoneOrCut end
   retain_good Done cause input does r = tt
   retain_good NoMemory cause input does r = tt
   retain_good ReadFault cause input does r = tt
   retain_good SendFault cause input does r = tt
   retain_good DiskFault cause input does r = absurd (r.whole cause)
-  retain_good (BadInput offset) cause input does r = absurd (bad_never _ r.total r.book input t.sent t.sent_now offset r.rules r.are (does r.total r.book r.holds))
+  retain_good (BadInput offset) cause input does r = absurd
+      (bad_never _ r.total r.book input t.sent t.sent_now offset r.rules r.are (does r.total r.book r.holds))
   retain_good InputTooLong cause input does r = absurd (omega (arith, r.short, (does r.total r.book r.holds).past))
-  retain_good (NoSeries offset) cause input does r = absurd (unknown_never _ r.total r.book input t.sent t.sent_now offset r.rules r.are (does r.total r.book r.holds))
+  retain_good (NoSeries offset) cause input does r = absurd
+      (unknown_never _ r.total r.book input t.sent t.sent_now offset r.rules r.are (does r.total r.book r.holds))
   retain_good end cause input does r = absurd (does r.total r.book r.holds)
 
   pub of_retain : (end : End) → RetainEnds old new t end → TurnsAway old t (status_of end) → OfRetain at end

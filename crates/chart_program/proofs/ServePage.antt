@@ -72,10 +72,12 @@ module _ {T : Type 0} (old new : View) (t : Traffic) (faults : Faults) where
   abbrev Did : Says → Type 0 → Result T LinesEnd → Type 0
   Did IsText CanShow answer = ServesWorld IsText CanShow old new t.left t.left_now t.sent t.sent_now faults answer
 
-  serve_does : (answer : Result T LinesEnd) → Did Spelled ⊥ answer → OpensFirst old t answer → ServeDoes Spelled (passed old new t) (end_of answer)
+  serve_does : (answer : Result T LinesEnd) → Did Spelled ⊥ answer → OpensFirst old t answer
+      → ServeDoes Spelled (passed old new t) (end_of answer)
   serve_does (Ok done) s first = (s.within, s.done)
   serve_does (Err (lines_end.Opening (opening.TooSmall size))) s first = (s.cause.0, omega (arith, s.cause.0, s.cause.1))
-  serve_does (Err (lines_end.Opening (opening.Damaged block))) s first = (record { at_first = s.cause.1; took_nothing = first.left_is; sent_nothing = first.sent_is }, told_first t.left _ _ s.ends)
+  serve_does (Err (lines_end.Opening (opening.Damaged block))) s
+      first = (record { at_first = s.cause.1; took_nothing = first.left_is; sent_nothing = first.sent_is }, told_first t.left _ _ s.ends)
   serve_does (Err (lines_end.Opening opening.DiskFault)) s first = s.ends
   serve_does (Err (lines_end.Opening opening.NoMemory)) s first = s.ends
   serve_does (Err (lines_end.Answering (run_end.Serve serve_end.ReadFault))) s first = s.ends
@@ -89,10 +91,12 @@ module _ {T : Type 0} (old new : View) (t : Traffic) (faults : Faults) where
   serve_does (Err (lines_end.Answering (run_end.Show (client.UnknownSession number)))) s first = absurd s.cause
   serve_does (Err (lines_end.Answering (run_end.Show client.NoMemory))) s first = s.ends
 
-  run_does : (answer : Result T LinesEnd) → Did AreTexts (Unit {0}) answer → OpensFirst old t answer → RunDoes (passed old new t) (end_of answer)
+  run_does : (answer : Result T LinesEnd) → Did AreTexts (Unit {0}) answer → OpensFirst old t answer
+      → RunDoes (passed old new t) (end_of answer)
   run_does (Ok done) s first = (s.within, s.done)
   run_does (Err (lines_end.Opening (opening.TooSmall size))) s first = (s.cause.0, omega (arith, s.cause.0, s.cause.1))
-  run_does (Err (lines_end.Opening (opening.Damaged block))) s first = (record { at_first = s.cause.1; took_nothing = first.left_is; sent_nothing = first.sent_is }, told_first t.left _ _ s.ends)
+  run_does (Err (lines_end.Opening (opening.Damaged block))) s
+      first = (record { at_first = s.cause.1; took_nothing = first.left_is; sent_nothing = first.sent_is }, told_first t.left _ _ s.ends)
   run_does (Err (lines_end.Opening opening.DiskFault)) s first = s.ends
   run_does (Err (lines_end.Opening opening.NoMemory)) s first = s.ends
   run_does (Err (lines_end.Answering (run_end.Serve serve_end.ReadFault))) s first = s.ends
@@ -102,9 +106,11 @@ module _ {T : Type 0} (old new : View) (t : Traffic) (faults : Faults) where
   run_does (Err (lines_end.Answering (run_end.Serve serve_end.InputTooLong))) s first = (s.long refl, s.ends)
   run_does (Err (lines_end.Answering (run_end.Serve serve_end.NoMemory))) s first = s.ends
   run_does (Err (lines_end.Answering (run_end.Show (client.Missing key)))) s first =
-      told_with t.left (λ input. Never (page_count old.size) old) (RejectsKey (passed old new t) client.Missing (key_number key)) s.ends (key, refl, s.cause.2)
+      told_with t.left (λ input. Never (page_count old.size) old) (RejectsKey (passed old new t) client.Missing (key_number key)) s.ends
+      (key, refl, s.cause.2)
   run_does (Err (lines_end.Answering (run_end.Show (client.BadCoefficient key)))) s first =
-      told_with t.left (λ input. Never (page_count old.size) old) (RejectsKey (passed old new t) client.BadCoefficient (key_number key)) s.ends (key, refl, s.cause.2)
+      told_with t.left (λ input. Never (page_count old.size) old)
+      (RejectsKey (passed old new t) client.BadCoefficient (key_number key)) s.ends (key, refl, s.cause.2)
   run_does (Err (lines_end.Answering (run_end.Show (client.UnknownSession number)))) s first = absurd s.cause
   run_does (Err (lines_end.Answering (run_end.Show client.NoMemory))) s first = s.ends
 
@@ -116,27 +122,38 @@ module _ {T : Type 0} (old new : View) (t : Traffic) (faults : Faults) where
     -- a disk that holds a book never ends so
     never_good : (answer : Result T LinesEnd) → IfSome t.left (λ input. Never (page_count old.size) old) → IfSome t.left (IsGood answer)
     never_good answer never =
-        told_so (λ input. Never (page_count old.size) old) (IsGood answer) t.left (λ input none r. absurd (none r.total r.book r.holds)) never
+        told_so (λ input. Never (page_count old.size) old) (IsGood answer) t.left
+        (λ input none r. absurd (none r.total r.book r.holds)) never
 
     good : (answer : Result T LinesEnd) → Did IsText CanShow answer → IfSome t.left (IsGood answer)
     good (Ok done) s = each_told t.left (IsGood (Ok done)) (λ input r. tt)
     good (Err (lines_end.Opening (opening.TooSmall size))) s = each_told t.left (IsGood (Err (lines_end.Opening (opening.TooSmall size))))
         (λ input r. absurd (small_never old r.total r.book r.holds (omega (arith, s.cause.0, s.cause.1))))
-    good (Err (lines_end.Opening (opening.Damaged block))) s = never_good (Err (lines_end.Opening (opening.Damaged block))) (told_first t.left _ _ s.ends)
-    good (Err (lines_end.Opening opening.DiskFault)) s = each_told t.left (IsGood (Err (lines_end.Opening opening.DiskFault))) (λ input r. absurd (r.whole s.cause))
+    good (Err (lines_end.Opening (opening.Damaged block))) s = never_good (Err (lines_end.Opening (opening.Damaged block)))
+        (told_first t.left _ _ s.ends)
+    good (Err (lines_end.Opening opening.DiskFault)) s = each_told t.left (IsGood (Err (lines_end.Opening opening.DiskFault)))
+        (λ input r. absurd (r.whole s.cause))
     good (Err (lines_end.Opening opening.NoMemory)) s = each_told t.left (IsGood (Err (lines_end.Opening opening.NoMemory))) (λ input r. tt)
-    good (Err (lines_end.Answering (run_end.Serve serve_end.ReadFault))) s = each_told t.left (IsGood (Err (lines_end.Answering (run_end.Serve serve_end.ReadFault)))) (λ input r. tt)
-    good (Err (lines_end.Answering (run_end.Serve serve_end.SendFault))) s = each_told t.left (IsGood (Err (lines_end.Answering (run_end.Serve serve_end.SendFault)))) (λ input r. tt)
-    good (Err (lines_end.Answering (run_end.Serve serve_end.DiskFault))) s = each_told t.left (IsGood (Err (lines_end.Answering (run_end.Serve serve_end.DiskFault)))) (λ input r. absurd (r.whole s.cause))
-    good (Err (lines_end.Answering (run_end.Serve (serve_end.Damaged page)))) s = never_good (Err (lines_end.Answering (run_end.Serve (serve_end.Damaged page)))) s.ends
+    good (Err (lines_end.Answering (run_end.Serve serve_end.ReadFault))) s = each_told t.left
+        (IsGood (Err (lines_end.Answering (run_end.Serve serve_end.ReadFault)))) (λ input r. tt)
+    good (Err (lines_end.Answering (run_end.Serve serve_end.SendFault))) s = each_told t.left
+        (IsGood (Err (lines_end.Answering (run_end.Serve serve_end.SendFault)))) (λ input r. tt)
+    good (Err (lines_end.Answering (run_end.Serve serve_end.DiskFault))) s = each_told t.left
+        (IsGood (Err (lines_end.Answering (run_end.Serve serve_end.DiskFault)))) (λ input r. absurd (r.whole s.cause))
+    good (Err (lines_end.Answering (run_end.Serve (serve_end.Damaged page)))) s = never_good
+        (Err (lines_end.Answering (run_end.Serve (serve_end.Damaged page)))) s.ends
     good (Err (lines_end.Answering (run_end.Serve serve_end.InputTooLong))) s =
         told_so (λ input. 2 ^ 32 < length input) (IsGood (Err (lines_end.Answering (run_end.Serve serve_end.InputTooLong)))) t.left
         (λ input long r. absurd (omega (arith, r.short, long))) (s.long refl)
-    good (Err (lines_end.Answering (run_end.Serve serve_end.NoMemory))) s = each_told t.left (IsGood (Err (lines_end.Answering (run_end.Serve serve_end.NoMemory)))) (λ input r. tt)
-    good (Err (lines_end.Answering (run_end.Show (client.Missing key)))) s = never_good (Err (lines_end.Answering (run_end.Show (client.Missing key)))) s.ends
-    good (Err (lines_end.Answering (run_end.Show (client.BadCoefficient key)))) s = never_good (Err (lines_end.Answering (run_end.Show (client.BadCoefficient key)))) s.ends
+    good (Err (lines_end.Answering (run_end.Serve serve_end.NoMemory))) s = each_told t.left
+        (IsGood (Err (lines_end.Answering (run_end.Serve serve_end.NoMemory)))) (λ input r. tt)
+    good (Err (lines_end.Answering (run_end.Show (client.Missing key)))) s = never_good
+        (Err (lines_end.Answering (run_end.Show (client.Missing key)))) s.ends
+    good (Err (lines_end.Answering (run_end.Show (client.BadCoefficient key)))) s = never_good
+        (Err (lines_end.Answering (run_end.Show (client.BadCoefficient key)))) s.ends
     good (Err (lines_end.Answering (run_end.Show (client.UnknownSession number)))) s = absurd s.cause
-    good (Err (lines_end.Answering (run_end.Show client.NoMemory))) s = each_told t.left (IsGood (Err (lines_end.Answering (run_end.Show client.NoMemory)))) (λ input r. tt)
+    good (Err (lines_end.Answering (run_end.Show client.NoMemory))) s = each_told t.left
+        (IsGood (Err (lines_end.Answering (run_end.Show client.NoMemory)))) (λ input r. tt)
 
     serves_lines : (answer : Result T LinesEnd) → Did IsText CanShow answer → TurnsAway old t (status_by answer)
         → ServesLines IsText (passed old new t) (end_of answer)
@@ -151,9 +168,11 @@ module _ {T : Type 0} (old new : View) (t : Traffic) (faults : Faults) where
         }
 
   pub of_serve : (answer : Result T LinesEnd) → Did Spelled ⊥ answer → OpensFirst old t answer → TurnsAway old t (status_by answer)
-      → NoneIsPassed AreSpellings (passed old new t) (end_of answer) → IsBlamed AreSpellings (passed old new t) (end_of answer) → OfServe (passed old new t) (end_of answer)
+      → NoneIsPassed AreSpellings (passed old new t) (end_of answer) → IsBlamed AreSpellings (passed old new t) (end_of answer)
+      → OfServe (passed old new t) (end_of answer)
   of_serve answer s first away none blamed = (serve_does answer s first, serves_lines Spelled ⊥ answer s away, none, blamed)
 
   pub of_run : (answer : Result T LinesEnd) → Did AreTexts (Unit {0}) answer → OpensFirst old t answer → TurnsAway old t (status_by answer)
-      → NoneIsPassed AreDrawnTexts (passed old new t) (end_of answer) → IsBlamed AreDrawnTexts (passed old new t) (end_of answer) → OfRun (passed old new t) (end_of answer)
+      → NoneIsPassed AreDrawnTexts (passed old new t) (end_of answer) → IsBlamed AreDrawnTexts (passed old new t) (end_of answer)
+      → OfRun (passed old new t) (end_of answer)
   of_run answer s first away none blamed = (run_does answer s first, serves_lines AreTexts (Unit {0}) answer s away, none, blamed)

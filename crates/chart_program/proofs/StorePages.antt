@@ -99,7 +99,8 @@ module _ (c : Course) (sends sends_now : ℕ) where
   -- ---- `demo`
 
   module _ (seed rounds : ℕ) where
-    demo_does : TookNothing c → (end : End) → IsDemoEnd end seed rounds c.old c.new c.sent c.sent_now sends sends_now → DemoDoes seed rounds c end
+    demo_does : TookNothing c → (end : End) → IsDemoEnd end seed rounds c.old c.new c.sent c.sent_now sends sends_now
+        → DemoDoes seed rounds c end
     demo_does took Done is = is
     demo_does took NoMemory is = is
     demo_does took SendFault is = is.1
@@ -111,7 +112,8 @@ module _ (c : Course) (sends sends_now : ℕ) where
     demo_does took (TooSmall blocks) is = is.0
     demo_does took end is = absurd is.0
 
-    pub demo_good : StandsOn c.old c.new → (end : End) → IsDemoEnd end seed rounds c.old c.new c.sent c.sent_now sends sends_now → IsDoneOrCut end
+    pub demo_good : StandsOn c.old c.new → (end : End) → IsDemoEnd end seed rounds c.old c.new c.sent c.sent_now sends sends_now
+        → IsDoneOrCut end
     demo_good r Done is = tt
     demo_good r NoMemory is = tt
     demo_good r SendFault is = tt
@@ -120,7 +122,8 @@ module _ (c : Course) (sends sends_now : ℕ) where
     demo_good r (BadCoefficient number) is = absurd (is.0 r.total r.book r.holds)
     demo_good r end is = unopened_good c.old c.new r end is.0
 
-    pub of_demo : (end : End) → DemoEnds seed rounds c.old c.new c.sent c.sent_now sends sends_now end → Away c end → TookNothing c → OfDemo seed rounds c end
+    pub of_demo : (end : End) → DemoEnds seed rounds c.old c.new c.sent c.sent_now sends sends_now end → Away c end → TookNothing c
+        → OfDemo seed rounds c end
     of_demo end e away took = record {
       does = demo_does took end e.is;
       store = record { goes_on = e.goes_on; away = away };
@@ -134,7 +137,8 @@ module _ (c : Course) (sends sends_now : ℕ) where
   -- ---- `export`
 
   module _ (name : List ℕ) (window : Option Window) where
-    export_does : TookNothing c → (end : End) → IsExportEnd end name window c.old c.new c.sent c.sent_now sends sends_now → ExportsPart name window (count c) c.old c.sent c.sent_now → ExportDoes name window c end
+    export_does : TookNothing c → (end : End) → IsExportEnd end name window c.old c.new c.sent c.sent_now sends sends_now
+        → ExportsPart name window (count c) c.old c.sent c.sent_now → ExportDoes name window c end
     export_does took Done is part = is
     export_does took NoMemory is part = part
     export_does took SendFault is part = part
@@ -145,7 +149,8 @@ module _ (c : Course) (sends sends_now : ℕ) where
     export_does took UnknownSeries is part = is
     export_does took end is part = absurd is.0
 
-    pub export_good : HoldsNamed name c.old c.new → (end : End) → IsExportEnd end name window c.old c.new c.sent c.sent_now sends sends_now → IsDoneOrCut end
+    pub export_good : HoldsNamed name c.old c.new → (end : End) → IsExportEnd end name window c.old c.new c.sent c.sent_now sends sends_now
+        → IsDoneOrCut end
     export_good r Done is = tt
     export_good r NoMemory is = tt
     export_good r SendFault is = tt
@@ -154,7 +159,8 @@ module _ (c : Course) (sends sends_now : ℕ) where
     export_good r UnknownSeries is = absurd (is.0 r.total r.book r.holds r.series r.named)
     export_good r end is = unopened_good c.old c.new (record { total = r.total; book = r.book; holds = r.holds; whole = r.whole }) end is.0
 
-    pub of_export : (end : End) → ExportEnds name window c.old c.new c.sent c.sent_now sends sends_now end → Away c end → TookNothing c → OfExport name window c end
+    pub of_export : (end : End) → ExportEnds name window c.old c.new c.sent c.sent_now sends sends_now end → Away c end → TookNothing c
+        → OfExport name window c end
     of_export end e away took = record {
       does = export_does took end e.is e.part;
       store = record { goes_on = e.goes_on; away = away };

@@ -31,7 +31,8 @@ module _ (old new : View) (left left' before now : Option (List ℕ)) (faults : 
 
   -- ---- `list`
 
-  list_came : (end : End) → IsListEnd end old new before now faults.sends faults.sends_now → Came ListSeries old new left left' before now faults end
+  list_came : (end : End) → IsListEnd end old new before now faults.sends faults.sends_now
+      → Came ListSeries old new left left' before now faults end
   list_came Done is = (told_all left _ tt, told_all left _ is, tt)
   list_came NoMemory is = told_all left _ is.1
   list_came SendFault is = (is.0, told_all left _ is.1)
@@ -49,12 +50,15 @@ module _ (old new : View) (left left' before now : Option (List ℕ)) (faults : 
   list_own (TooSmall blocks) is = (5, omega arith, refl)
   list_own end is = absurd is.0
 
-  list_unsent : (end : End) → IsListEnd end old new before now faults.sends faults.sends_now → code_of end ≢ 0 → code_of end ≢ 5 → now ≡ before
+  list_unsent : (end : End) → IsListEnd end old new before now faults.sends faults.sends_now → code_of end ≢ 0 → code_of end ≢ 5
+      → now ≡ before
   list_unsent Done is whole part = absurd (whole refl)
   list_unsent SendFault is whole part = absurd (part refl)
   list_unsent end is whole part = is.1
 
-  pub list_ends : (end : End) → ListEnds old new before now faults.sends faults.sends_now end → (old.size < 128 → IsTurnedAway left left' before now (code_of end)) → left' ≡ left → CommandEnds ListSeries old new left left' before now faults (code_of end) (place_of end)
+  pub list_ends : (end : End) → ListEnds old new before now faults.sends faults.sends_now end
+      → (old.size < 128 → IsTurnedAway left left' before now (code_of end)) → left' ≡ left
+      → CommandEnds ListSeries old new left left' before now faults (code_of end) (place_of end)
   list_ends end e away untaken = by_code ListSeries old new left left' before now faults end (record {
     came = list_came end e.is;
     own = list_own end e.is;
@@ -77,7 +81,8 @@ module _ (old new : View) (left left' before now : Option (List ℕ)) (faults : 
 
   -- ---- `check`
 
-  check_came : (end : End) → IsCheckEnd end old new before now faults.sends faults.sends_now → Came Check old new left left' before now faults end
+  check_came : (end : End) → IsCheckEnd end old new before now faults.sends faults.sends_now
+      → Came Check old new left left' before now faults end
   check_came Done is = (told_all left _ tt, told_all left _ is, tt)
   check_came NoMemory is = told_all left _ is.1
   check_came SendFault is = (is.0, told_all left _ is.1)
@@ -97,13 +102,16 @@ module _ (old new : View) (left left' before now : Option (List ℕ)) (faults : 
   check_own (TooSmall blocks) is = (5, omega arith, refl)
   check_own end is = absurd is.0
 
-  check_unsent : (end : End) → IsCheckEnd end old new before now faults.sends faults.sends_now → code_of end ≢ 0 → code_of end ≢ 5 → now ≡ before
+  check_unsent : (end : End) → IsCheckEnd end old new before now faults.sends faults.sends_now → code_of end ≢ 0 → code_of end ≢ 5
+      → now ≡ before
   check_unsent Done is whole part = absurd (whole refl)
   check_unsent SendFault is whole part = absurd (part refl)
   check_unsent (DamagedPage page) is whole part = is.2
   check_unsent end is whole part = is.1
 
-  pub check_ends : (end : End) → CheckEnds old new before now faults.sends faults.sends_now end → (old.size < 128 → IsTurnedAway left left' before now (code_of end)) → left' ≡ left → CommandEnds Check old new left left' before now faults (code_of end) (place_of end)
+  pub check_ends : (end : End) → CheckEnds old new before now faults.sends faults.sends_now end
+      → (old.size < 128 → IsTurnedAway left left' before now (code_of end)) → left' ≡ left
+      → CommandEnds Check old new left left' before now faults (code_of end) (place_of end)
   check_ends end e away untaken = by_code Check old new left left' before now faults end (record {
     came = check_came end e.is;
     own = check_own end e.is;
@@ -127,7 +135,8 @@ module _ (old new : View) (left left' before now : Option (List ℕ)) (faults : 
   -- ---- `demo`
 
   module _ (seed rounds : ℕ) where
-    demo_came : (end : End) → IsDemoEnd end seed rounds old new before now faults.sends faults.sends_now → Came (Demo seed rounds) old new left left' before now faults end
+    demo_came : (end : End) → IsDemoEnd end seed rounds old new before now faults.sends faults.sends_now
+        → Came (Demo seed rounds) old new left left' before now faults end
     demo_came Done is = (told_all left _ tt, told_all left _ is, tt)
     demo_came NoMemory is = told_all left _ is.0
     demo_came SendFault is = (is.0, told_all left _ is.1)
@@ -139,7 +148,8 @@ module _ (old new : View) (left left' before now : Option (List ℕ)) (faults : 
     demo_came (TooSmall blocks) is = is.0
     demo_came end is = absurd is.0
 
-    demo_own : (end : End) → IsDemoEnd end seed rounds old new before now faults.sends faults.sends_now → Contains (codes_of (Demo seed rounds)) (code_of end)
+    demo_own : (end : End) → IsDemoEnd end seed rounds old new before now faults.sends faults.sends_now
+        → Contains (codes_of (Demo seed rounds)) (code_of end)
     demo_own Done is = (0, omega arith, refl)
     demo_own NoMemory is = (1, omega arith, refl)
     demo_own SendFault is = (2, omega arith, refl)
@@ -151,7 +161,8 @@ module _ (old new : View) (left left' before now : Option (List ℕ)) (faults : 
     demo_own (TooSmall blocks) is = (7, omega arith, refl)
     demo_own end is = absurd is.0
 
-    demo_unsent : (end : End) → IsDemoEnd end seed rounds old new before now faults.sends faults.sends_now → code_of end ≢ 0 → code_of end ≢ 5 → now ≡ before
+    demo_unsent : (end : End) → IsDemoEnd end seed rounds old new before now faults.sends faults.sends_now → code_of end ≢ 0
+        → code_of end ≢ 5 → now ≡ before
     demo_unsent Done is whole part = absurd (whole refl)
     demo_unsent SendFault is whole part = absurd (part refl)
     demo_unsent (DamagedPage page) is whole part = is.2
@@ -159,7 +170,10 @@ module _ (old new : View) (left left' before now : Option (List ℕ)) (faults : 
     demo_unsent (BadCoefficient key) is whole part = is.2
     demo_unsent end is whole part = is.1
 
-    pub demo_ends : (end : End) → DemoEnds seed rounds old new before now faults.sends faults.sends_now end → (old.size < 128 → IsTurnedAway left left' before now (code_of end)) → left' ≡ left → (end ≢ DiskFault → HoldsAgain (page_count old.size) old new) → CommandEnds (Demo seed rounds) old new left left' before now faults (code_of end) (place_of end)
+    pub demo_ends : (end : End) → DemoEnds seed rounds old new before now faults.sends faults.sends_now end
+        → (old.size < 128 → IsTurnedAway left left' before now (code_of end)) → left' ≡ left
+        → (end ≢ DiskFault → HoldsAgain (page_count old.size) old new)
+        → CommandEnds (Demo seed rounds) old new left left' before now faults (code_of end) (place_of end)
     demo_ends end e away untaken holds = by_code (Demo seed rounds) old new left left' before now faults end (record {
       came = demo_came end e.is;
       own = demo_own end e.is;
@@ -183,7 +197,8 @@ module _ (old new : View) (left left' before now : Option (List ℕ)) (faults : 
   -- ---- `export`
 
   module _ (name : List ℕ) (window : Option Window) where
-    export_came : (end : End) → IsExportEnd end name window old new before now faults.sends faults.sends_now → ExportsPart name window (page_count old.size) old before now → Came (Export name window) old new left left' before now faults end
+    export_came : (end : End) → IsExportEnd end name window old new before now faults.sends faults.sends_now
+        → ExportsPart name window (page_count old.size) old before now → Came (Export name window) old new left left' before now faults end
     export_came Done is part = (told_all left _ tt, told_all left _ is, tt)
     export_came NoMemory is part = told_all left _ part
     export_came SendFault is part = (is, told_all left _ part)
@@ -194,7 +209,8 @@ module _ (old new : View) (left left' before now : Option (List ℕ)) (faults : 
     export_came UnknownSeries is part = (is.1, told_all left _ (refl, is.0))
     export_came end is part = absurd is.0
 
-    export_own : (end : End) → IsExportEnd end name window old new before now faults.sends faults.sends_now → Contains (codes_of (Export name window)) (code_of end)
+    export_own : (end : End) → IsExportEnd end name window old new before now faults.sends faults.sends_now
+        → Contains (codes_of (Export name window)) (code_of end)
     export_own Done is = (0, omega arith, refl)
     export_own NoMemory is = (1, omega arith, refl)
     export_own SendFault is = (2, omega arith, refl)
@@ -205,7 +221,9 @@ module _ (old new : View) (left left' before now : Option (List ℕ)) (faults : 
     export_own UnknownSeries is = (6, omega arith, refl)
     export_own end is = absurd is.0
 
-    pub export_ends : (end : End) → ExportEnds name window old new before now faults.sends faults.sends_now end → (old.size < 128 → IsTurnedAway left left' before now (code_of end)) → left' ≡ left → CommandEnds (Export name window) old new left left' before now faults (code_of end) (place_of end)
+    pub export_ends : (end : End) → ExportEnds name window old new before now faults.sends faults.sends_now end
+        → (old.size < 128 → IsTurnedAway left left' before now (code_of end)) → left' ≡ left
+        → CommandEnds (Export name window) old new left left' before now faults (code_of end) (place_of end)
     export_ends end e away untaken = by_code (Export name window) old new left left' before now faults end (record {
       came = export_came end e.is e.part;
       own = export_own end e.is;

@@ -7,7 +7,8 @@ use Rattle.draw_command.specs.Alone.{StaysAlone}
 use Rattle.draw_command.specs.Draws.{DrawsAll, EndsDraw, StopsAtFrame}
 use Rattle.draw_command.specs.declared.draw_end.DrawEnd.{DrawEnd}
 use Rattle.draw_command.specs.declared.draw_end.DrawEnd.TheVariants as draw_end
-use Rattle.draw_command.specs.declared.draw_end.DrawEnd.TheVariants.{NoMemory, ReadFault, InputTooLong, BadFrame, Missing, BadCoefficient, UnknownSession}
+use Rattle.draw_command.specs.declared.draw_end.DrawEnd.TheVariants.{NoMemory, ReadFault, InputTooLong, BadFrame, Missing, BadCoefficient}
+use Rattle.draw_command.specs.declared.draw_end.DrawEnd.TheVariants.{UnknownSession}
 use Rattle.om3_coeff.specs.declared.key.Key.{Key}
 use Rattle.store_commands.proofs.InputLemmas.{any_told}
 use Rattle.chart_program.specs.declared.input.InputEnd.TheVariants as input
@@ -29,16 +30,19 @@ kept_alone : (c : Course) → StaysAlone c.old c.new → KeptBook c
 kept_alone c alone = record { holds = alone_keeps c.old c.new alone; crash = alone_leaves c.old c.new alone }
 
 -- the key that a view lacks has the number that is told
-keyed : (c : Course) (every : Option ℕ) (why : Key → DrawEnd) (key : Key) → OfInput c (λ input. StopsAtFrame every input c.sent c.sent_now (why key)) → StopsAtKey every c why (key_number key)
+keyed : (c : Course) (every : Option ℕ) (why : Key → DrawEnd) (key : Key)
+    → OfInput c (λ input. StopsAtFrame every input c.sent c.sent_now (why key)) → StopsAtKey every c why (key_number key)
 keyed c every why key ends =
     let Stops : List ℕ → Type 0 = λ input. StopsAtFrame every input c.sent c.sent_now (why key) in
-    told_so Stops (λ input. (k : Key) × (key_number key ≡ key_number k) × StopsAtFrame every input c.sent c.sent_now (why k)) c.left (λ input stops. (key, refl, stops)) ends
+    told_so Stops (λ input. (k : Key) × (key_number key ≡ key_number k)
+    × StopsAtFrame every input c.sent c.sent_now (why k)) c.left (λ input stops. (key, refl, stops)) ends
 
 module _ {T : Type 0} (c : Course) where
   -- ---- a plot
 
   module _ (w h : ℕ) where
-    plot_does : (r : Result T PlotEnd) → OnOk r (IsShort c) → OnOk r (OfInput c (λ input. SendsPlot w h input c.sent c.sent_now)) → IfErr r (λ end. OfInput c (λ input. EndsPlot w h input c.left_now c.sent c.sent_now end))
+    plot_does : (r : Result T PlotEnd) → OnOk r (IsShort c) → OnOk r (OfInput c (λ input. SendsPlot w h input c.sent c.sent_now))
+        → IfErr r (λ end. OfInput c (λ input. EndsPlot w h input c.left_now c.sent c.sent_now end))
         → IfErr r (λ end. end ≢ SendFault → SentNothing c) → PlotDoes w h c (plotting_end r)
     plot_does (Ok all) short done ends unsent = (short, done)
     plot_does (Err SendFault) short done ends unsent = ends
@@ -52,28 +56,43 @@ module _ {T : Type 0} (c : Course) where
     abbrev GoodSlots : Result T PlotEnd → List ℕ → Type 0
     GoodSlots r input = IsSlots input → IsDoneOrCut (plotting_end r)
 
-    plot_good : (r : Result T PlotEnd) → IfErr r (λ end. OfInput c (λ input. EndsPlot w h input c.left_now c.sent c.sent_now end)) → OfInput c (GoodSlots r)
+    plot_good : (r : Result T PlotEnd) → IfErr r (λ end. OfInput c (λ input. EndsPlot w h input c.left_now c.sent c.sent_now end))
+        → OfInput c (GoodSlots r)
     plot_good (Ok all) ends = any_told c.left (GoodSlots (Ok all)) (λ input good. tt)
     plot_good (Err SendFault) ends = any_told c.left (GoodSlots (Err SendFault)) (λ input good. tt)
     plot_good (Err (Input input.NoMemory)) ends = any_told c.left (GoodSlots (Err (Input input.NoMemory))) (λ input good. tt)
     plot_good (Err (Input input.ReadFault)) ends = any_told c.left (GoodSlots (Err (Input input.ReadFault))) (λ input good. tt)
     plot_good (Err (Input input.InputTooLong)) ends =
-        told_so IsTooLong (GoodSlots (Err (Input input.InputTooLong))) c.left (λ i long good. absurd (no_much i (2 ^ 32) good (inr (refl, long)))) ends
+        told_so IsTooLong (GoodSlots (Err (Input input.InputTooLong))) c.left
+        (λ i long good. absurd (no_much i (2 ^ 32) good (inr (refl, long)))) ends
     plot_good (Err (Input (input.BadLine at))) ends =
         told_so (λ i. FirstBad i at) (GoodSlots (Err (Input (input.BadLine at)))) c.left (λ i bad good. absurd (no_bad i at good bad)) ends
     plot_good (Err (Input input.TooManySlots)) ends =
-        told_so HasTooMany (GoodSlots (Err (Input input.TooManySlots))) c.left (λ i many good. absurd (no_much i most_slots good (inl (refl, many)))) ends
+        told_so HasTooMany (GoodSlots (Err (Input input.TooManySlots))) c.left
+        (λ i many good. absurd (no_much i most_slots good (inl (refl, many)))) ends
 
-    pub of_plot : (r : Result T PlotEnd) → OnOk r (OfInput c (λ input. SendsPlot w h input c.sent c.sent_now)) → OnOk r (IsShort c) → IfErr r (λ end. OfInput c (λ input. EndsPlot w h input c.left_now c.sent c.sent_now end))
+    pub of_plot : (r : Result T PlotEnd) → OnOk r (OfInput c (λ input. SendsPlot w h input c.sent c.sent_now)) → OnOk r (IsShort c)
+        → IfErr r (λ end. OfInput c (λ input. EndsPlot w h input c.left_now c.sent c.sent_now end))
         → IfErr r (λ end. end ≢ SendFault → SentNothing c) → StaysAlone c.old c.new → OfPlot w h c (plotting_end r)
-    of_plot r done short ends unsent alone = record { does = plot_does r short done ends unsent; disk = alone.kept; kept = kept_alone c alone; good = plot_good r ends }
+    of_plot r done short ends unsent alone = record {
+      does = plot_does r short done ends unsent;
+      disk = alone.kept;
+      kept = kept_alone c alone;
+      good = plot_good r ends;
+    }
 
   -- ---- a drawing, with covers or with none
 
   module _ (every : Option ℕ) where
-    draw_does : Book → (r : Result T DrawEnd) → OnOk r (IsShort c) → OnOk r (OfInput c (λ input. DrawsAll every input c.sent c.sent_now)) → IfErr r (λ end. OfInput c (λ input. EndsDraw every input c.left_now c.sent c.sent_now end))
+    draw_does : Book → (r : Result T DrawEnd) → OnOk r (IsShort c) → OnOk r (OfInput c (λ input. DrawsAll every input c.sent c.sent_now))
+        → IfErr r (λ end. OfInput c (λ input. EndsDraw every input c.left_now c.sent c.sent_now end))
         → DrawDoes every c (drawing_end r)
-    draw_does book (Ok all) short done ends = (short, done, told_so (λ input. DrawsAll every input c.sent c.sent_now) (λ input. DrawsBook every input c.sent c.sent_now) c.left (λ input all. book every input c.sent c.sent_now all) done)
+    draw_does book (Ok all) short done ends = (
+      short,
+      done,
+      told_so (λ input. DrawsAll every input c.sent c.sent_now) (λ input. DrawsBook every input c.sent c.sent_now) c.left
+          (λ input all. book every input c.sent c.sent_now all) done,
+    )
     draw_does book (Err NoMemory) short done ends = ends
     draw_does book (Err ReadFault) short done ends = ends
     draw_does book (Err draw_end.SendFault) short done ends = ends
@@ -84,7 +103,9 @@ module _ {T : Type 0} (c : Course) where
     draw_does book (Err (UnknownSession n)) short done ends = ends
 
     -- good input is drawn, unless a stream fails or there is no memory
-    draw_good : Known → Stay → (r : Result T DrawEnd) → IfErr r (λ end. OfInput c (λ input. EndsDraw every input c.left_now c.sent c.sent_now end)) → OfInput c (λ input. IsFrames input → IsDoneOrCut (drawing_end r))
+    draw_good : Known → Stay → (r : Result T DrawEnd)
+        → IfErr r (λ end. OfInput c (λ input. EndsDraw every input c.left_now c.sent c.sent_now end))
+        → OfInput c (λ input. IsFrames input → IsDoneOrCut (drawing_end r))
     draw_good known stay (Ok all) ends = good_so c.left _ tt
     draw_good known stay (Err NoMemory) ends = good_so c.left _ tt
     draw_good known stay (Err ReadFault) ends = good_so c.left _ tt
@@ -95,8 +116,10 @@ module _ {T : Type 0} (c : Course) where
     draw_good known stay (Err (BadCoefficient key)) ends = misfit_never every known _ c.left c.left_now c.sent c.sent_now key ends
     draw_good known stay (Err (UnknownSession n)) ends = unopened_never every known _ c.left c.left_now c.sent c.sent_now n ends
 
-    pub drawn_by : Known → Stay → Book → Good → (r : Result T DrawEnd) → OnOk r (OfInput c (λ input. DrawsAll every input c.sent c.sent_now)) → OnOk r (IsShort c)
-        → IfErr r (λ end. OfInput c (λ input. EndsDraw every input c.left_now c.sent c.sent_now end)) → StaysAlone c.old c.new → Draws every c (drawing_end r)
+    pub drawn_by : Known → Stay → Book → Good → (r : Result T DrawEnd)
+        → OnOk r (OfInput c (λ input. DrawsAll every input c.sent c.sent_now)) → OnOk r (IsShort c)
+        → IfErr r (λ end. OfInput c (λ input. EndsDraw every input c.left_now c.sent c.sent_now end)) → StaysAlone c.old c.new
+        → Draws every c (drawing_end r)
     drawn_by known stay book good r done short ends alone = record {
       does = draw_does book r short done ends;
       disk = alone.kept;

@@ -1,9 +1,11 @@
 -- What the words of a command say of it.
-use Rattle.std.proofs.Common.{◌≡◌, ℕ, zero, suc, true, false, inl, inr, List, [], ◌∷◌, Option, IfSome, get_or, refl, ap, sym, arith, subst, ◌∙◌}
+use Rattle.std.proofs.Common.{◌≡◌, ℕ, zero, suc, true, false, inl, inr, List, [], ◌∷◌, Option, IfSome, get_or, refl, ap, sym, arith, subst}
+use Rattle.std.proofs.Common.{◌∙◌}
 use Rattle.std.specs.Prelude.{Contains, String, map, string_bytes}
 use Rattle.block_disk.specs.View.{View}
 use Rattle.program_words.specs.declared.words.Command.{Command}
-use Rattle.program_words.specs.declared.words.Command.TheVariants.{Plot, Load, Demo, Run, Serve, Draw, Init, Check, ListSeries, Export, Retain, Cover, Live, Host, Derive}
+use Rattle.program_words.specs.declared.words.Command.TheVariants.{Plot, Load, Demo, Run, Serve, Draw, Init, Check, ListSeries, Export}
+use Rattle.program_words.specs.declared.words.Command.TheVariants.{Retain, Cover, Live, Host, Derive}
 use Rattle.program_words.specs.CommandLine.{plain_words, has_flag}
 use Rattle.program_words.specs.Words.{OfCommand, Spells, IsWrong, EndsWords}
 use Rattle.program_words.specs.declared.words.WordsEnd.{WordsEnd}
@@ -11,7 +13,8 @@ use Rattle.program_words.specs.declared.words.WordsEnd.TheVariants.{Wrong}
 use Rattle.chart_program.specs.Ran.{HasGoodInput, HasOperands, IsStreaming, IsInput, IsFrames, IsOfReplies, IsCoverOfReplies, BeginStream}
 
 -- the words are those of this command
-pub of_command : (words : List (List ℕ)) (command told : Command) (P : Command → Type 0) → told ≡ command → Spells told words → P command → OfCommand words P
+pub of_command : (words : List (List ℕ)) (command told : Command) (P : Command → Type 0) → told ≡ command → Spells told words → P command
+    → OfCommand words P
 of_command words command told P is spells holds =
     let S : Command → Type 0 = λ c. Spells c words in
     record { command = command; spells = subst S is spells; holds = holds }
@@ -93,12 +96,14 @@ one_init Live words is other = let both : 105 ≡ 110 = ap second (sym is ∙ ot
 one_init Host words is other = let both : 111 ≡ 110 = ap second (sym is ∙ other) in absurd (omega (arith, both))
 one_init Derive words is other = let both : 101 ≡ 110 = ap second (sym is ∙ other) in absurd (omega (arith, both))
 
-pub chart_codes : (code : ℕ) → Contains (0 ∷ 3 ∷ 4 ∷ 5 ∷ 6 ∷ 7 ∷ 8 ∷ 9 ∷ 10 ∷ 11 ∷ 12 ∷ 13 ∷ 14 ∷ 15 ∷ 16 ∷ 17 ∷ []) code → Contains (0 ∷ 2 ∷ 3 ∷ 4 ∷ 5 ∷ 6 ∷ 7 ∷ 8 ∷ 9 ∷ 10 ∷ 11 ∷ 12 ∷ 13 ∷ 14 ∷ 15 ∷ 16 ∷ 17 ∷ []) code
+pub chart_codes : (code : ℕ) → Contains (0 ∷ 3 ∷ 4 ∷ 5 ∷ 6 ∷ 7 ∷ 8 ∷ 9 ∷ 10 ∷ 11 ∷ 12 ∷ 13 ∷ 14 ∷ 15 ∷ 16 ∷ 17 ∷ []) code
+    → Contains (0 ∷ 2 ∷ 3 ∷ 4 ∷ 5 ∷ 6 ∷ 7 ∷ 8 ∷ 9 ∷ 10 ∷ 11 ∷ 12 ∷ 13 ∷ 14 ∷ 15 ∷ 16 ∷ 17 ∷ []) code
 chart_codes code (zero, inside, is) = (0, omega arith, is)
 chart_codes code (suc k, inside, is) = (suc (suc k), omega (arith, inside), is)
 
 -- a command that is done with good input is done with that of its words
-pub completes : {Z : Type 0} (words : List (String Z)) (left : Option (List ℕ)) (command : Command) (old new : View) (D : Type 0) → Spells command (plain_words (map string_bytes words)) → IfSome left (λ input. IsInput command old new input → D)
+pub completes : {Z : Type 0} (words : List (String Z)) (left : Option (List ℕ)) (command : Command) (old new : View) (D : Type 0)
+    → Spells command (plain_words (map string_bytes words)) → IfSome left (λ input. IsInput command old new input → D)
     → HasGoodInput words left (λ told. IsInput told old new) → D
 completes words left command old new D spells done given =
     let P : Option (List ℕ) → Type 0 = λ o. IfSome o (λ input. IsInput command old new input → D) in
@@ -106,7 +111,8 @@ completes words left command old new D spells done given =
     there (given.good command spells)
 
 -- the same where the input is frames that answer lines, for a command that draws covers
-cover_completes : (command : Command) (old new : View) (input : List ℕ) (D : Type 0) → ((i : List ℕ) → IsOfReplies i → IsFrames i) → (IsInput command old new input → D) → IsCoverOfReplies command input → D
+cover_completes : (command : Command) (old new : View) (input : List ℕ) (D : Type 0) → ((i : List ℕ) → IsOfReplies i → IsFrames i)
+    → (IsInput command old new input → D) → IsCoverOfReplies command input → D
 cover_completes (Plot w h) old new input D frames done replies = absurd replies
 cover_completes (Load name) old new input D frames done replies = absurd replies
 cover_completes (Demo seed rounds) old new input D frames done replies = absurd replies
@@ -123,7 +129,8 @@ cover_completes Host old new input D frames done replies = absurd replies
 cover_completes Derive old new input D frames done replies = absurd replies
 cover_completes (Cover every) old new input D frames done replies = done (frames input replies)
 
-pub covers_complete : {Z : Type 0} (words : List (String Z)) (left : Option (List ℕ)) (command : Command) (old new : View) (D : Type 0) → ((i : List ℕ) → IsOfReplies i → IsFrames i) → Spells command (plain_words (map string_bytes words))
+pub covers_complete : {Z : Type 0} (words : List (String Z)) (left : Option (List ℕ)) (command : Command) (old new : View) (D : Type 0)
+    → ((i : List ℕ) → IsOfReplies i → IsFrames i) → Spells command (plain_words (map string_bytes words))
     → IfSome left (λ input. IsInput command old new input → D) → HasGoodInput words left IsCoverOfReplies → D
 covers_complete words left command old new D frames spells done given =
     let P : Option (List ℕ) → Type 0 = λ o. IfSome o (λ input. IsInput command old new input → D) in
@@ -133,10 +140,14 @@ covers_complete words left command old new D frames spells done given =
 pub wrong_end : (end : WordsEnd) (place : ℕ) (words : List (List ℕ)) → end ≡ Wrong place → EndsWords end words → IsWrong place words
 wrong_end end place words is ends = let E : WordsEnd → Type 0 = λ e. EndsWords e words in subst E is ends
 
-pub wrong_never : (place : ℕ) (words : List (List ℕ)) (command : Command) → has_flag words ≡ false → Spells command (plain_words words) → IsWrong place words → ⊥
+pub wrong_never : (place : ℕ) (words : List (List ℕ)) (command : Command) → has_flag words ≡ false → Spells command (plain_words words)
+    → IsWrong place words → ⊥
 wrong_never place words command plain spells (inl flag) = let both : true ≡ false = sym flag.0 ∙ plain in cc
-wrong_never place words command plain spells (inr wrong) = wrong.1.here (record { command = command; spelling = plain_words words; spells = spells; same = refl })
+wrong_never place words command plain spells (inr wrong) = wrong.1.here
+    (record { command = command; spelling = plain_words words; spells = spells; same = refl })
 
 -- good words aren't wrong
-pub good_never : {Z : Type 0} (place : ℕ) (words : List (String Z)) (left : Option (List ℕ)) (IsGood : Command → List ℕ → Type 0) (D : Type 0) → IsWrong place (map string_bytes words) → HasGoodInput words left IsGood → D
-good_never place words left IsGood D wrong given = absurd (wrong_never place (map string_bytes words) given.command.1.command given.command.0 given.command.1.spells wrong)
+pub good_never : {Z : Type 0} (place : ℕ) (words : List (String Z)) (left : Option (List ℕ)) (IsGood : Command → List ℕ
+    → Type 0) (D : Type 0) → IsWrong place (map string_bytes words) → HasGoodInput words left IsGood → D
+good_never place words left IsGood D wrong given = absurd
+    (wrong_never place (map string_bytes words) given.command.1.command given.command.0 given.command.1.spells wrong)

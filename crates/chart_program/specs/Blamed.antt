@@ -69,7 +69,8 @@ RunBlames IsSent count disk left before now (run_end.Serve serve_end.NoMemory) =
 RunBlames IsSent count disk left before now (run_end.Show e) = ⊤
 
 -- over the pages of an open store on a world
-abbrev pub PagesBlamed : {W : Type 0} {disk : DiskGhosts W} → IsSentOf → (W → View) → GatePages W disk → W → Option (List ℕ) → Option (List ℕ)
+abbrev pub PagesBlamed : {W : Type 0} {disk : DiskGhosts W} → IsSentOf → (W → View) → GatePages W disk → W → Option (List ℕ)
+    → Option (List ℕ)
     → Option (List ℕ) → RunEnd → Type 0
 PagesBlamed IsSent view pages new left before now end = RunBlames IsSent (gate.count pages) (view new) left before now end
 

@@ -2,7 +2,8 @@
 use Rattle.run_ends.specs.declared.ending.End.{End}
 use Rattle.run_ends.specs.declared.ending.End.TheVariants.{Done, NoMemory, SendFault, DiskFault, DamagedBlock, DamagedPage, TooSmall}
 use Rattle.store_commands.specs.Checked.{IsBadForCheck, ReadsStore, SendsCounts, SendsCountsPart}
-use Rattle.chart_program.specs.Course.{Course, FoundDamaged, FoundPage, HasFewBlocks, HeldNoBook, IsDoneOrCut, KeptBook, OverStore, WritesLittle}
+use Rattle.chart_program.specs.Course.{Course, FoundDamaged, FoundPage, HasFewBlocks, HeldNoBook, IsDoneOrCut, KeptBook, OverStore}
+use Rattle.chart_program.specs.Course.{WritesLittle}
 use Rattle.chart_program.specs.Course.{SentNothing, StandsOn, TookNothing, count}
 
 -- what it sent, by how it ended

@@ -5,7 +5,8 @@ use Rattle.gate_pages.specs.Journal.{page_count}
 use Rattle.disk_store.specs.Openings.{IsOpeningPlace}
 use Rattle.disk_store.specs.declared.causes.OpeningCause.{OpeningCause}
 use Rattle.program_words.specs.declared.words.Command.{Command}
-use Rattle.program_words.specs.declared.words.Command.TheVariants.{Plot, Load, Demo, Run, Serve, Draw, Init, Check, ListSeries, Export, Retain, Cover, Live, Host, Derive}
+use Rattle.program_words.specs.declared.words.Command.TheVariants.{Plot, Load, Demo, Run, Serve, Draw, Init, Check, ListSeries, Export}
+use Rattle.program_words.specs.declared.words.Command.TheVariants.{Retain, Cover, Live, Host, Derive}
 use Rattle.run_ends.specs.declared.status.Status.{Status}
 use Rattle.run_ends.specs.declared.ending.End.{End}
 use Rattle.run_ends.specs.declared.ending.End.TheVariants as ends
@@ -73,7 +74,8 @@ OpensFirst old t (Err (lines_end.Answering end)) = 128 ≤ old.size
 
 -- The block at this place was found damaged at the opening, and then no input was taken and nothing was sent; or it was
 -- found so as lines were answered.
-abbrev pub IsBarredAs : (ℕ → Image → ℕ → Type 0) → ℕ → View → Option (List ℕ) → Option (List ℕ) → Option (List ℕ) → Option (List ℕ) → ℕ → Type 0
+abbrev pub IsBarredAs : (ℕ → Image → ℕ → Type 0) → ℕ → View → Option (List ℕ) → Option (List ℕ) → Option (List ℕ) → Option (List ℕ) → ℕ
+    → Type 0
 IsBarredAs IsBad count new left left' before now place =
     (((place ≡ 1) ⊎ ((66 ≤ place) × (place ≤ 82))) × ((left' ≡ left) × (now ≡ before))) ⊎ IsDamagedLater IsBad count new place
 

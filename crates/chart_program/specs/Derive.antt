@@ -3,7 +3,8 @@ use Rattle.std.specs.Prelude.{ℕ, ◌≤◌, ◌^◌, List, length}
 use Rattle.block_disk.specs.Counts.{HasRisen}
 use Rattle.block_disk.specs.View.{View}
 use Rattle.chart_service.specs.Serving.{told}
-use Rattle.derive_command.specs.Derived.{IsBadForChart, DerivesAll, DerivesFirst, DerivesPart, DerivesTaken, DerivesToBad, DerivesToRefused, DerivesWithin}
+use Rattle.derive_command.specs.Derived.{IsBadForChart, DerivesAll, DerivesFirst, DerivesPart, DerivesTaken, DerivesToBad, DerivesToRefused}
+use Rattle.derive_command.specs.Derived.{DerivesWithin}
 use Rattle.derive_command.specs.Catalogs.{by_disk}
 use Rattle.derive_command.specs.Lines.{AreUnrefused, EndsAnyhow}
 use Rattle.disk_store.specs.Held.{HoldsBook}
@@ -13,7 +14,8 @@ use Rattle.run_ends.specs.declared.ending.End.{End}
 use Rattle.run_ends.specs.declared.ending.End.TheVariants.{Done, NoMemory, ReadFault, SendFault, DiskFault, DamagedBlock, DamagedPage}
 use Rattle.run_ends.specs.declared.ending.End.TheVariants.{BadInput, InputTooLong, TooSmall, RefusedLine}
 use Rattle.series_book.specs.declared.one_series.Series.{Series}
-use Rattle.chart_program.specs.Course.{Course, FoundDamaged, FoundPage, HasFewBlocks, HeldNoBook, IsDoneOrCut, IsLonger, IsShort, KeptBook, OfInput, WritesLittle}
+use Rattle.chart_program.specs.Course.{Course, FoundDamaged, FoundPage, HasFewBlocks, HeldNoBook, IsDoneOrCut, IsLonger, IsShort, KeptBook}
+use Rattle.chart_program.specs.Course.{OfInput, WritesLittle}
 use Rattle.chart_program.specs.Course.{OverStore, Told, count}
 
 -- what it sent, by how it ended

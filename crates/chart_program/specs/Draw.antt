@@ -32,7 +32,8 @@ DrawDoes every c (BadInput at) =
 DrawDoes every c InputTooLong = OfInput c (λ input. DrawsWithin every input c.sent c.sent_now)
 DrawDoes every c (Missing number) = StopsAtKey every c draw_end.Missing number
 DrawDoes every c (BadCoefficient number) = StopsAtKey every c draw_end.BadCoefficient number
-DrawDoes every c (UnknownSession session) = OfInput c (λ input. StopsAtFrame every input c.sent c.sent_now (draw_end.UnknownSession session))
+DrawDoes every c (UnknownSession session) = OfInput c
+    (λ input. StopsAtFrame every input c.sent c.sent_now (draw_end.UnknownSession session))
 DrawDoes every c end = ⊥
 
 -- the input is frames, and no more than `draw` takes, and a client rejects none

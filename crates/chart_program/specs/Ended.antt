@@ -17,7 +17,8 @@ use Rattle.chart_program.specs.declared.run_end.RunEnd.TheVariants as run_end
 use Rattle.run_ends.specs.declared.status.Status.{Status}
 use Rattle.run_ends.specs.Statuses.{block_of, status}
 use Rattle.store_commands.specs.Status.{opening_status}
-use Rattle.chart_program.specs.Served.{Says, Faults, AnswersAll, AnswersFront, AnswersTaken, AnswersWithin, AnswersSome, AnswersLines, LeavesBooks, RejectsNext, ReadsServing, SyncsServing}
+use Rattle.chart_program.specs.Served.{Says, Faults, AnswersAll, AnswersFront, AnswersTaken, AnswersWithin, AnswersSome, AnswersLines}
+use Rattle.chart_program.specs.Served.{LeavesBooks, RejectsNext, ReadsServing, SyncsServing}
 use Rattle.stored_book.specs.Damage.{IsBadForRequest}
 use Rattle.store_commands.specs.Damaged.{IsDamagedPlace}
 use Rattle.store_commands.specs.Books.{HoldsAgain, Never}
@@ -53,22 +54,27 @@ HasNumberedKey (lines_end.Answering (run_end.Serve end)) = ⊤
 HasNumberedKey (lines_end.Answering (run_end.Show e)) = HasNumber e
 
 -- What a serving command sent and left, and why it ended, by the status.
-pub record EndsBy (IsText : Says) (CanShow : Type 0) (old new : View) (left left' before now : Option (List ℕ)) (faults : Faults) (code place : ℕ) : Type 0 where
+pub record EndsBy (IsText : Says) (CanShow : Type 0) (old new : View) (left left' before now : Option (List ℕ)) (faults : Faults)
+    (code place : ℕ) : Type 0 where
   pub codes : Contains (0 ∷ 3 ∷ 4 ∷ 5 ∷ 6 ∷ 7 ∷ 9 ∷ 10 ∷ 11 ∷ 12 ∷ 15 ∷ []) code
   pub done : code ≡ 0 → IfSome left (λ input. AnswersAll IsText (page_count old.size) old new input before now)
   pub within : code ≡ 0 → WasRead left left'
   pub memory : code ≡ 3 → IfSome left (λ input. AnswersSome IsText (page_count old.size) old new input before now)
   pub read : code ≡ 4 → HasRisen faults.reads faults.reads_now
-  pub stopped : code ≡ 4 → IfSome left (λ input. IfSome left' (λ bytes. AnswersTaken IsText (page_count old.size) old new input bytes before now))
+  pub stopped : code ≡ 4 → IfSome left (λ input. IfSome left'
+      (λ bytes. AnswersTaken IsText (page_count old.size) old new input bytes before now))
   pub send : code ≡ 5 → HasRisen faults.sends faults.sends_now
   pub part : code ≡ 5 → IfSome left (λ input. AnswersFront IsText (page_count old.size) old new input before now)
   pub fault : code ≡ 6 → HasRisen old.faults new.faults
   pub faulted : code ≡ 6 → IfSome left (λ input. AnswersLines IsText (page_count old.size) old input before now)
   pub damaged : code ≡ 7 → IsDamagedPlace IsBadForRequest old new place
   pub undamaged : code ≡ 7 → IfSome left (λ input. Never (page_count old.size) old)
-  pub much : code ≡ 9 → IfSome left (λ input. (place ≡ 2 ^ 32) × (2 ^ 32 < length input) × AnswersWithin IsText (page_count old.size) old new input before now)
-  pub missing : code ≡ 10 → CanShow × IfSome left (λ input. Never (page_count old.size) old × ((key : Key) × (place ≡ key_number key) × RejectsNext (client.Missing key) before now))
-  pub misfit : code ≡ 11 → CanShow × IfSome left (λ input. Never (page_count old.size) old × ((key : Key) × (place ≡ key_number key) × RejectsNext (client.BadCoefficient key) before now))
+  pub much : code ≡ 9 → IfSome left (λ input. (place ≡ 2 ^ 32) × (2 ^ 32 < length input)
+      × AnswersWithin IsText (page_count old.size) old new input before now)
+  pub missing : code ≡ 10 → CanShow × IfSome left (λ input. Never (page_count old.size) old
+      × ((key : Key) × (place ≡ key_number key) × RejectsNext (client.Missing key) before now))
+  pub misfit : code ≡ 11 → CanShow × IfSome left (λ input. Never (page_count old.size) old
+      × ((key : Key) × (place ≡ key_number key) × RejectsNext (client.BadCoefficient key) before now))
   pub small : code ≡ 12 → (place ≡ old.size) × (old.size < 128)
   pub opened : code ≡ 15 → ⊥
   pub zero_place : Contains (0 ∷ 3 ∷ 4 ∷ 5 ∷ 6 ∷ []) code → place ≡ 0

@@ -14,7 +14,8 @@ use Rattle.store_commands.specs.Exported.{ExportsAll, ExportsPart, HasNone, IsBa
 use Rattle.store_commands.specs.Lacking.{LacksRecord}
 use Rattle.store_commands.specs.Loaded.{Unnamed}
 use Rattle.store_commands.specs.Salvaged.{ReadsHeld, Salvages}
-use Rattle.chart_program.specs.Course.{Course, FoundDamaged, FoundPage, HasFewBlocks, HeldNoBook, IsDoneOrCut, KeptBook, OverStore, WritesLittle}
+use Rattle.chart_program.specs.Course.{Course, FoundDamaged, FoundPage, HasFewBlocks, HeldNoBook, IsDoneOrCut, KeptBook, OverStore}
+use Rattle.chart_program.specs.Course.{WritesLittle}
 use Rattle.chart_program.specs.Course.{SentNothing, TookNothing, count}
 
 -- what it sent, by how it ended

@@ -17,15 +17,17 @@ use Rattle.chart_program.specs.Runs.{Gives, AreShown}
 -- A frame that is shown opens its session for what is known of `show`, or closes it, or leaves all sessions.
 abbrev pub Follows : {V : Type 0} → Gives V → (V → ℕ → Bool) → Type 0
 Follows {V} gives knows =
-    (old new : V) (frame : Frame) (shown : Shown) (n : ℕ) → Fits frame → gives old (spelling frame) (Ok shown) new → IsTrue (opens frame n (knows old n)) → IsTrue (knows new n)
+    (old new : V) (frame : Frame) (shown : Shown) (n : ℕ) → Fits frame → gives old (spelling frame) (Ok shown) new
+    → IsTrue (opens frame n (knows old n)) → IsTrue (knows new n)
 
 -- an error of showing was given to a frame that names known sessions
 abbrev pub EndsKnown : {V : Type 0} → Gives V → (V → ℕ → Bool) → RunEnd → Type 0
 EndsKnown gives knows (Serve end) = ⊤
-EndsKnown {V} gives knows (Show e) = (old : V) × (frame : Frame) × (new : V) × Fits frame × NamesKnown frame (knows old) × gives old (spelling frame) (Err e) new
+EndsKnown {V} gives knows (Show e) = (old : V) × (frame : Frame) × (new : V) × Fits frame × NamesKnown frame (knows old)
+    × gives old (spelling frame) (Err e) new
 
--- Frames whose fields meet their rules were given to `show` one after the other, each of which, if it closes a session or answers in it, names one that is
--- open by those before it. What was sent is the texts of what they showed, or a first part of that.
+-- Frames whose fields meet their rules were given to `show` one after the other, each of which, if it closes a session or answers
+-- in it, names one that is open by those before it. What was sent is the texts of what they showed, or a first part of that.
 pub record ShowsNamed {V : Type 0} (gives : Gives V) (old new : V) (sessions : List Session) (before now : Option (List ℕ)) : Type 0 where
   pub frames : List Frame
   pub fits : All Fits frames
@@ -37,7 +39,8 @@ pub record ShowsNamed {V : Type 0} (gives : Gives V) (old new : V) (sessions : L
   pub sent : now ≡ sent_after (take count text) before
 
 -- the texts of all such frames were sent, and this error is what `show` gave for the next one, which is such a frame too
-pub record ShowStops {V : Type 0} (gives : Gives V) (old new : V) (sessions : List Session) (before now : Option (List ℕ)) (e : ClientError) : Type 0 where
+pub record ShowStops {V : Type 0} (gives : Gives V) (old new : V) (sessions : List Session) (before now : Option (List ℕ))
+    (e : ClientError) : Type 0 where
   pub last : V
   pub given : ShowsNamed gives old last sessions before now
   pub whole : given.count ≡ length given.text

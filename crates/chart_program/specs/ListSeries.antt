@@ -3,7 +3,8 @@ use Rattle.std.specs.Prelude.{◌≡◌}
 use Rattle.run_ends.specs.declared.ending.End.{End}
 use Rattle.run_ends.specs.declared.ending.End.TheVariants.{Done, NoMemory, SendFault, DiskFault, DamagedBlock, TooSmall}
 use Rattle.store_commands.specs.Listed.{ListsRecords, ReadsOpening, SendsList, SendsListPart}
-use Rattle.chart_program.specs.Course.{Course, FoundDamaged, HasFewBlocks, HeldNoBook, IsDoneOrCut, KeptBook, OverStore, SentNothing, WritesLittle}
+use Rattle.chart_program.specs.Course.{Course, FoundDamaged, HasFewBlocks, HeldNoBook, IsDoneOrCut, KeptBook, OverStore, SentNothing}
+use Rattle.chart_program.specs.Course.{WritesLittle}
 use Rattle.chart_program.specs.Course.{StandsOn, TookNothing, count}
 
 -- what it sent, by how it ended

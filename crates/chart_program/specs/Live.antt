@@ -8,7 +8,8 @@ use Rattle.run_ends.specs.declared.ending.End.{End}
 use Rattle.run_ends.specs.declared.ending.End.TheVariants.{Done, NoMemory, ReadFault, SendFault, DiskFault, DamagedBlock, DamagedPage}
 use Rattle.run_ends.specs.declared.ending.End.TheVariants.{InputTooLong, TooSmall}
 use Rattle.stored_book.specs.Damage.{IsBadForRequest}
-use Rattle.chart_program.specs.Course.{AtEachMoment, Course, FoundDamaged, FoundPage, HasFewBlocks, HeldNoBook, IsDoneOrCut, IsLonger, IsShort}
+use Rattle.chart_program.specs.Course.{AtEachMoment, Course, FoundDamaged, FoundPage, HasFewBlocks, HeldNoBook, IsDoneOrCut, IsLonger}
+use Rattle.chart_program.specs.Course.{IsShort}
 use Rattle.chart_program.specs.Course.{OfInput, OverStore, Told}
 use Rattle.chart_program.specs.LineAnswers.{IsBlamedBy, NoneIsPassedBy}
 use Rattle.chart_program.specs.Serve.{AreLines}

@@ -16,7 +16,8 @@ use Rattle.chart_service.specs.State.{State}
 use Rattle.chart_service.specs.Serving.{Answers, AnswersNext, told}
 use Rattle.chart_service.specs.Moments.{SendsReply}
 use Rattle.program_words.specs.declared.words.Command.{Command}
-use Rattle.program_words.specs.declared.words.Command.TheVariants.{Plot, Load, Demo, Run, Serve, Draw, Init, Check, ListSeries, Export, Retain, Cover, Live, Host, Derive}
+use Rattle.program_words.specs.declared.words.Command.TheVariants.{Plot, Load, Demo, Run, Serve, Draw, Init, Check, ListSeries, Export}
+use Rattle.program_words.specs.declared.words.Command.TheVariants.{Retain, Cover, Live, Host, Derive}
 use Rattle.store_commands.specs.Books.{begun}
 use Rattle.store_commands.specs.Loaded.{IsAheadLoad}
 use Rattle.demo_workload.specs.Demonstrated.{AnswersFirst, IsAheadDemo}
@@ -41,19 +42,25 @@ pub record Life : Type 0 where
 
 -- what a crash leaves of a book at a moment of a command
 abbrev pub LeavesFrom : Command → List ℕ → ℕ → ℕ → List Series → ℕ → Image → ℕ → Type 0
-LeavesFrom Run input count total book from image sent = IsAheadOn (AreTexts (begun total book)) input count total (begun total book) from image sent
-LeavesFrom Serve input count total book from image sent = IsAheadOn (Spelled (begun total book)) input count total (begun total book) from image sent
+LeavesFrom Run input count total book from image sent = IsAheadOn (AreTexts (begun total book)) input count total
+    (begun total book) from image sent
+LeavesFrom Serve input count total book from image sent = IsAheadOn (Spelled (begun total book)) input count total
+    (begun total book) from image sent
 LeavesFrom (Load name) input count total book from image sent =
     ((series : Series) → IsNamed book name series → IsAheadLoad count total name book series input from image sent)
     × (id_of name book ≡ None → RecoversTo count image total book)
-LeavesFrom (Demo seed rounds) input count total book from image sent = IsAheadDemo (workload seed rounds) count total (begun total book) from image sent
+LeavesFrom (Demo seed rounds) input count total book from image sent = IsAheadDemo (workload seed rounds) count total
+    (begun total book) from image sent
 LeavesFrom Check input count total book from image sent = RecoversTo count image total book
 LeavesFrom ListSeries input count total book from image sent = RecoversTo count image total book
 LeavesFrom (Export name window) input count total book from image sent = RecoversTo count image total book
-LeavesFrom Retain input count total book from image sent = IsAheadBy (λ after. RecoversTo count image total after) total book input from sent
+LeavesFrom Retain input count total book from image sent = IsAheadBy
+    (λ after. RecoversTo count image total after) total book input from sent
 LeavesFrom (Cover every) input count total book from image sent = RecoversTo count image total book
-LeavesFrom Live input count total book from image sent = IsAheadLive (λ after. RecoversTo count image total after) input (begun_live total book) from sent
-LeavesFrom Host input count total book from image sent = IsAheadHosted (λ after. RecoversTo count image total after) input (begun_live total book) from sent
+LeavesFrom Live input count total book from image sent = IsAheadLive (λ after. RecoversTo count image total after) input
+    (begun_live total book) from sent
+LeavesFrom Host input count total book from image sent = IsAheadHosted (λ after. RecoversTo count image total after) input
+    (begun_live total book) from sent
 LeavesFrom Derive input count total book from image sent = RecoversTo count image total book
 LeavesFrom (Plot w h) input count total book from image sent = RecoversTo count image total book
 LeavesFrom Draw input count total book from image sent = RecoversTo count image total book
@@ -61,7 +68,8 @@ LeavesFrom Init input count total book from image sent = RecoversTo count image 
 
 -- what is known of a life by the clause on crashes of `chart`
 abbrev pub IsLife : ℕ → Life → Type 0
-IsLife count life = (total : ℕ) (book : List Series) → RecoversTo count life.begins total book → LeavesFrom life.command life.input count total book life.from life.left life.sent
+IsLife count life = (total : ℕ) (book : List Series) → RecoversTo count life.begins total book
+    → LeavesFrom life.command life.input count total book life.from life.left life.sent
 
 -- the disk has this image, and nothing is pending
 pub record BeginsOn (image : Image) (disk : View) : Type 0 where
@@ -70,7 +78,14 @@ pub record BeginsOn (image : Image) (disk : View) : Type 0 where
 
 -- the life of a run from one disk to another, where a crash at this moment left this image
 abbrev pub life_of : Command → List ℕ → Image → View → View → ℕ → Image → Life
-life_of command input begins old new at left = record { command = command; input = input; begins = begins; from = sent_now old; left = left; sent = new.sent_by at }
+life_of command input begins old new at left = record {
+  command = command;
+  input = input;
+  begins = begins;
+  from = sent_now old;
+  left = left;
+  sent = new.sent_by at;
+}
 
 -- a crash at this moment of the run may leave this image
 abbrev pub IsLeftAt : View → View → ℕ → Image → Type 0
@@ -94,7 +109,8 @@ AreLives count image (life ∷ lives) = (life.begins ≡ image) × IsLife count 
 
 -- The new book is the old one after the accepted edits of some first lines: of all lines whose answers were sent whole by
 -- then, and of at most `most_ahead` lines more, of whose answers no more was sent than those of the first of them are long.
-pub record IsAfterLines (IsText : List (Option (List ℕ)) → List Frame → List ℕ → Type 0) (input : List ℕ) (total : ℕ) (old new : List Series) (from sent : ℕ) : Type 0 where
+pub record IsAfterLines (IsText : List (Option (List ℕ)) → List Frame → List ℕ
+    → Type 0) (input : List ℕ) (total : ℕ) (old new : List Series) (from sent : ℕ) : Type 0 where
   pub front : List ℕ
   pub rest : List ℕ
   pub begins_with : BeginsWith input front rest
@@ -127,13 +143,15 @@ pub record IsAfterRequests (seed rounds total : ℕ) (old new : List Series) (fr
   pub state : State
   pub some : AnswersFirst (workload seed rounds) (begun total old) state
   pub new_is : new ≡ state.book
-  pub all : from < sent → (frames : List Frame) × (last : State) × AnswersEach (begun total old) (workload seed rounds) frames last × (new ≡ last.book)
+  pub all : from < sent → (frames : List Frame) × (last : State) × AnswersEach (begun total old) (workload seed rounds) frames last
+      × (new ≡ last.book)
 
 -- what a life leaves of a book
 abbrev pub Outlives : Command → List ℕ → ℕ → List Series → List Series → ℕ → ℕ → Type 0
 Outlives Run input total old new from sent = IsAfterLines (AreTexts (begun total old)) input total old new from sent
 Outlives Serve input total old new from sent = IsAfterLines (Spelled (begun total old)) input total old new from sent
-Outlives (Load name) input total old new from sent = IsAfterSets total name input old new from sent ⊎ ((id_of name old ≡ None) × (new ≡ old))
+Outlives (Load name) input total old new from sent = IsAfterSets total name input old new from sent
+    ⊎ ((id_of name old ≡ None) × (new ≡ old))
 Outlives (Demo seed rounds) input total old new from sent = IsAfterRequests seed rounds total old new from sent
 Outlives Check input total old new from sent = new ≡ old
 Outlives ListSeries input total old new from sent = new ≡ old
@@ -153,4 +171,5 @@ abbrev pub AreBooks : ℕ → ℕ → List Series → List Life → Type 0
 AreBooks count total book [] = ⊤
 AreBooks count total book (life ∷ lives) =
     RecoversTo count life.begins total book
-    × ((next : List Series) × Outlives life.command life.input total book next life.from life.sent × RecoversTo count life.left total next × AreBooks count total next lives)
+    × ((next : List Series) × Outlives life.command life.input total book next life.from life.sent × RecoversTo count life.left total next
+    × AreBooks count total next lives)

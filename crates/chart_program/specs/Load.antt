@@ -13,9 +13,11 @@ use Rattle.series_load.specs.Ends.{IsAtBad, IsAtRefusal}
 use Rattle.series_load.specs.Sets.{IsNamed}
 use Rattle.stored_book.specs.Damage.{IsBadForEdit}
 use Rattle.store_commands.specs.Lacking.{LacksRecord}
-use Rattle.store_commands.specs.Loaded.{HasNone, IsAtLine, LeavesLoads, LeavesUnnamed, LoadsAll, LoadsAndSendsPart, LoadsSome, LoadsTaken, LoadsToBad}
+use Rattle.store_commands.specs.Loaded.{HasNone, IsAtLine, LeavesLoads, LeavesUnnamed, LoadsAll, LoadsAndSendsPart, LoadsSome, LoadsTaken}
+use Rattle.store_commands.specs.Loaded.{LoadsToBad}
 use Rattle.store_commands.specs.Loaded.{LoadsFew, LoadsWithin, RefusesRun, TellsReadings, Unnamed, unnamed_ends}
-use Rattle.chart_program.specs.Course.{AtEachMoment, Course, FoundDamaged, FoundPage, HasFewBlocks, HeldNoBook, IsDoneOrCut, IsLonger, IsShort}
+use Rattle.chart_program.specs.Course.{AtEachMoment, Course, FoundDamaged, FoundPage, HasFewBlocks, HeldNoBook, IsDoneOrCut, IsLonger}
+use Rattle.chart_program.specs.Course.{IsShort}
 use Rattle.chart_program.specs.Course.{KeptBook, OfInput, OfLeft, OverStore, SentNothing, Told, TookNothing, count}
 
 -- what it did and sent, by how it ended; at a fault of the disk what that holds is said by the moments

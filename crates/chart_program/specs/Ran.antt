@@ -1,5 +1,6 @@
 -- What a run of a command does.
-use Rattle.std.specs.Prelude.{◌≡◌, ◌≢◌, ℕ, ◌<◌, ◌≤◌, ◌^◌, ◌⊎◌, List, [], ◌∷◌, length, Contains, get_or, Option, None, Some, IfSome, codes, String, map, string_bytes, ⊤}
+use Rattle.std.specs.Prelude.{◌≡◌, ◌≢◌, ℕ, ◌<◌, ◌≤◌, ◌^◌, ◌⊎◌, List, [], ◌∷◌, length, Contains, get_or, Option, None, Some, IfSome, codes}
+use Rattle.std.specs.Prelude.{String, map, string_bytes, ⊤}
 use Rattle.block_disk.specs.View.{View, DiskKept, Honest}
 use Rattle.gate_pages.specs.Journal.{page_count}
 use Rattle.empty_store.specs.declared.errors.InitCause.{InitCause}
@@ -12,7 +13,8 @@ use Rattle.gate_pages.specs.Pages.{GoesOn}
 use Rattle.block_disk.specs.Counts.{HasRisen}
 use Rattle.disk_store.specs.Held.{HoldsBook}
 use Rattle.program_words.specs.declared.words.Command.{Command}
-use Rattle.program_words.specs.declared.words.Command.TheVariants.{Plot, Load, Demo, Run, Serve, Draw, Init, Check, ListSeries, Export, Retain, Cover, Live, Host, Derive}
+use Rattle.program_words.specs.declared.words.Command.TheVariants.{Plot, Load, Demo, Run, Serve, Draw, Init, Check, ListSeries, Export}
+use Rattle.program_words.specs.declared.words.Command.TheVariants.{Retain, Cover, Live, Host, Derive}
 use Rattle.draw_command.specs.declared.draw_end.DrawEnd.TheVariants as draw_end
 use Rattle.program_words.specs.CommandLine.{plain_words}
 use Rattle.program_words.specs.Words.{AreCommand, ByCommand, Spells}
@@ -24,9 +26,11 @@ use Rattle.store_commands.specs.Away.{IsTurnedAway}
 use Rattle.chart_program.specs.Host.{HostsAll, HostsLines, HostsPart, HostsSome, HostsTaken, HostsWithin}
 use Rattle.chart_program.specs.Slots.{FirstBad, HasTooMany, IsTooLong, StoppedBefore, most_slots}
 use Rattle.chart_program.specs.Plotted.{SendsPlot, SendsFront}
-use Rattle.chart_program.specs.Served.{Faults, faults_of, AreTexts, Spelled, AnswersAll, AnswersFront, AnswersTaken, AnswersWithin, AnswersSome, AnswersLines, LeavesBooks, ReadsServing, SyncsServing, RejectsNext}
+use Rattle.chart_program.specs.Served.{Faults, faults_of, AreTexts, Spelled, AnswersAll, AnswersFront, AnswersTaken, AnswersWithin}
+use Rattle.chart_program.specs.Served.{AnswersSome, AnswersLines, LeavesBooks, ReadsServing, SyncsServing, RejectsNext}
 use Rattle.store_commands.specs.Books.{FromBook, HoldsAgain, Never, LeavesSame}
-use Rattle.store_commands.specs.Loaded.{Unnamed, LoadsAll, LoadsAndSendsPart, LoadsSome, LoadsToBad, LoadsTaken, LoadsWithin, RefusesSet, LeavesLoads, LeavesUnnamed}
+use Rattle.store_commands.specs.Loaded.{Unnamed, LoadsAll, LoadsAndSendsPart, LoadsSome, LoadsToBad, LoadsTaken, LoadsWithin, RefusesSet}
+use Rattle.store_commands.specs.Loaded.{LeavesLoads, LeavesUnnamed}
 use Rattle.store_commands.specs.Checked.{SendsCounts, SendsCountsPart, IsBadForCheck, ReadsStore}
 use Rattle.store_commands.specs.Listed.{SendsList, SendsListPart, ReadsOpening}
 use Rattle.store_commands.specs.Exported.{ExportsAll, ExportsPart, HasNone, IsBadForExport, ReadsSeries}
@@ -34,12 +38,15 @@ use Rattle.demo_workload.specs.Demonstrated.{SendsSummary, SendsSummaryPart, Ans
 use Rattle.demo_workload.specs.Ending.{MeetsError}
 use Rattle.demo_workload.specs.Workload.{workload}
 use Rattle.stored_book.specs.Damage.{IsBadForEdit, IsBadForRequest}
-use Rattle.retain_command.specs.Retained.{LeavesSwept, RetainsAll, RetainsLines, RetainsPart, RetainsSome, RetainsTaken, RetainsToBad, RetainsToUnknown, RetainsWithin}
+use Rattle.retain_command.specs.Retained.{LeavesSwept, RetainsAll, RetainsLines, RetainsPart, RetainsSome, RetainsTaken, RetainsToBad}
+use Rattle.retain_command.specs.Retained.{RetainsToUnknown, RetainsWithin}
 use Rattle.host_command.specs.Ended.{CostsHosting, LeavesHosted}
 use Rattle.hosted_lines.specs.HostCauses.{IsBadForHost}
 use Rattle.hosted_lines.specs.Input.{most_bytes}
-use Rattle.live_command.specs.Ended.{LeavesLived, LivesAll, LivesLines, LivesPart, LivesSome, LivesTaken, LivesWithin, ReadsLiving, SyncsLiving}
-use Rattle.derive_command.specs.Derived.{IsBadForChart, DerivesAll, DerivesFirst, DerivesPart, DerivesTaken, DerivesToBad, DerivesToRefused, DerivesWithin}
+use Rattle.live_command.specs.Ended.{LeavesLived, LivesAll, LivesLines, LivesPart, LivesSome, LivesTaken, LivesWithin, ReadsLiving}
+use Rattle.live_command.specs.Ended.{SyncsLiving}
+use Rattle.derive_command.specs.Derived.{IsBadForChart, DerivesAll, DerivesFirst, DerivesPart, DerivesTaken, DerivesToBad, DerivesToRefused}
+use Rattle.derive_command.specs.Derived.{DerivesWithin}
 use Rattle.store_commands.specs.Damaged.{IsDamagedAtFirst, IsDamagedPlace}
 use Rattle.chart_program.specs.CommandStatuses.{codes_of, IsOverStore, TakesNone, Bars}
 use Rattle.draw_command.specs.Draws.{DrawsAll, DrawsTaken, DrawsWithin, IsCut, StopsAtFrame}
@@ -59,7 +66,8 @@ pub use Rattle.chart_program.specs.Serve.{AreLines}
 -- the input, and of what was sent before and now.
 abbrev pub ForCommand : {Z W : Type 0} → List (String Z) → (W → View) → (W → Option (List ℕ)) → (W → Option (List ℕ)) → W → W
     → (Command → View → View → List ℕ → Option (List ℕ) → Option (List ℕ) → Type 0) → Type 0
-ForCommand words view left sent old new IsSo = ByCommand words (λ command. IfSome (left old) (λ input. IsSo command (view old) (view new) input (sent old) (sent new)))
+ForCommand words view left sent old new IsSo = ByCommand words
+    (λ command. IfSome (left old) (λ input. IsSo command (view old) (view new) input (sent old) (sent new)))
 
 -- over a disk that is too small for a store each command over one is turned away
 abbrev pub IsAwayFor : View → Status → Command → Option (List ℕ) → Option (List ℕ) → Option (List ℕ) → Option (List ℕ) → Type 0
@@ -73,7 +81,8 @@ ForStreams words left sent old new IsSo = ByCommand words (λ command. IsSo comm
 -- the first words of the commands that send before they end
 abbrev pub stream_words : List (List ℕ)
 stream_words =
-    codes "run" ∷ codes "serve" ∷ codes "draw" ∷ codes "export" ∷ codes "retain" ∷ codes "cover" ∷ codes "live" ∷ codes "host" ∷ codes "derive" ∷ []
+    codes "run" ∷ codes "serve" ∷ codes "draw" ∷ codes "export" ∷ codes "retain" ∷ codes "cover" ∷ codes "live" ∷ codes "host" ∷ codes
+    "derive" ∷ []
 
 -- the words begin with one of these
 abbrev pub BeginStream : List (List ℕ) → Type 0
@@ -88,7 +97,8 @@ SendsAll Serve old new input before now = AnswersAll Spelled (page_count old.siz
 SendsAll Draw old new input before now = DrawsAll None input before now
 SendsAll Init old new input before now = now ≡ before
 SendsAll (Load name) old new input before now = LoadsAll name (page_count old.size) old new input before now
-SendsAll (Demo seed rounds) old new input before now = FromBook (page_count old.size) old new (λ start state. SendsSummary (workload seed rounds) start state before now)
+SendsAll (Demo seed rounds) old new input before now = FromBook (page_count old.size) old new
+    (λ start state. SendsSummary (workload seed rounds) start state before now)
 SendsAll Check old new input before now = SendsCounts (page_count old.size) old before now
 SendsAll ListSeries old new input before now = SendsList (page_count old.size) old before now
 SendsAll (Export name window) old new input before now = ExportsAll name window (page_count old.size) old before now
@@ -106,7 +116,8 @@ SendsPart Serve old new input before now = AnswersFront Spelled (page_count old.
 SendsPart Draw old new input before now = StopsAtFrame None input before now draw_end.SendFault
 SendsPart Init old new input before now = ⊥
 SendsPart (Load name) old new input before now = LoadsAndSendsPart name (page_count old.size) old new input before now
-SendsPart (Demo seed rounds) old new input before now = FromBook (page_count old.size) old new (λ start state. SendsSummaryPart (workload seed rounds) start state before now)
+SendsPart (Demo seed rounds) old new input before now = FromBook (page_count old.size) old new
+    (λ start state. SendsSummaryPart (workload seed rounds) start state before now)
 SendsPart Check old new input before now = SendsCountsPart (page_count old.size) old before now
 SendsPart ListSeries old new input before now = SendsListPart (page_count old.size) old before now
 SendsPart (Export name window) old new input before now = ExportsPart name window (page_count old.size) old before now
@@ -182,27 +193,36 @@ StopsAtDisk Derive old input before now = DerivesFirst (page_count old.size) old
 -- these and their covers.
 abbrev pub IsBadInput : Command → View → View → List ℕ → ℕ → Option (List ℕ) → Option (List ℕ) → Type 0
 IsBadInput (Plot w h) old new input place before now = FirstBad input place
-IsBadInput Draw old new input place before now = IsCut None input place before now ⊎ StopsAtFrame None input before now (draw_end.BadFrame place)
+IsBadInput Draw old new input place before now = IsCut None input place before now
+    ⊎ StopsAtFrame None input before now (draw_end.BadFrame place)
 IsBadInput (Load name) old new input place before now = LoadsToBad name (page_count old.size) old new input place
 IsBadInput Retain old new input place before now = RetainsToBad (page_count old.size) old new input place before now
-IsBadInput (Cover every) old new input place before now = IsCut (Some every) input place before now ⊎ StopsAtFrame (Some every) input before now (draw_end.BadFrame place)
+IsBadInput (Cover every) old new input place before now = IsCut (Some every) input place before now
+    ⊎ StopsAtFrame (Some every) input before now (draw_end.BadFrame place)
 IsBadInput Derive old new input place before now = DerivesToBad (page_count old.size) old input place before now
 IsBadInput command old new input place before now = ⊥
 
 -- A frame's first wanted key that can't be used has no coefficient. That never comes for a `run` whose disk holds a book.
 abbrev pub Lacks : Command → View → List ℕ → ℕ → Option (List ℕ) → Option (List ℕ) → Type 0
 Lacks Draw old input place before now = (key : Key) × (place ≡ key_number key) × StopsAtFrame None input before now (draw_end.Missing key)
-Lacks (Cover every) old input place before now = (key : Key) × (place ≡ key_number key) × StopsAtFrame (Some every) input before now (draw_end.Missing key)
-Lacks Run old input place before now = Never (page_count old.size) old × ((key : Key) × (place ≡ key_number key) × RejectsNext (client.Missing key) before now)
-Lacks (Demo seed rounds) old input place before now = Never (page_count old.size) old × ((key : Key) × (place ≡ key_number key) × MeetsError (client.Missing key))
+Lacks (Cover every) old input place before now = (key : Key) × (place ≡ key_number key)
+    × StopsAtFrame (Some every) input before now (draw_end.Missing key)
+Lacks Run old input place before now = Never (page_count old.size) old
+    × ((key : Key) × (place ≡ key_number key) × RejectsNext (client.Missing key) before now)
+Lacks (Demo seed rounds) old input place before now = Never (page_count old.size) old
+    × ((key : Key) × (place ≡ key_number key) × MeetsError (client.Missing key))
 Lacks command old input place before now = ⊥
 
 -- a frame's first wanted key that can't be used has one that doesn't fit
 abbrev pub Misfits : Command → View → List ℕ → ℕ → Option (List ℕ) → Option (List ℕ) → Type 0
-Misfits Draw old input place before now = (key : Key) × (place ≡ key_number key) × StopsAtFrame None input before now (draw_end.BadCoefficient key)
-Misfits (Cover every) old input place before now = (key : Key) × (place ≡ key_number key) × StopsAtFrame (Some every) input before now (draw_end.BadCoefficient key)
-Misfits Run old input place before now = Never (page_count old.size) old × ((key : Key) × (place ≡ key_number key) × RejectsNext (client.BadCoefficient key) before now)
-Misfits (Demo seed rounds) old input place before now = Never (page_count old.size) old × ((key : Key) × (place ≡ key_number key) × MeetsError (client.BadCoefficient key))
+Misfits Draw old input place before now = (key : Key) × (place ≡ key_number key)
+    × StopsAtFrame None input before now (draw_end.BadCoefficient key)
+Misfits (Cover every) old input place before now = (key : Key) × (place ≡ key_number key)
+    × StopsAtFrame (Some every) input before now (draw_end.BadCoefficient key)
+Misfits Run old input place before now = Never (page_count old.size) old
+    × ((key : Key) × (place ≡ key_number key) × RejectsNext (client.BadCoefficient key) before now)
+Misfits (Demo seed rounds) old input place before now = Never (page_count old.size) old
+    × ((key : Key) × (place ≡ key_number key) × MeetsError (client.BadCoefficient key))
 Misfits command old input place before now = ⊥
 
 -- a frame names this session, which isn't open
@@ -302,20 +322,27 @@ HasTooMuch input place = ((place ≡ most_slots) × HasTooMany input) ⊎ ((plac
 -- there is more input than the command takes
 abbrev pub IsTooMuch : Command → View → View → List ℕ → ℕ → Option (List ℕ) → Option (List ℕ) → Type 0
 IsTooMuch (Plot w h) old new input place before now = HasTooMuch input place
-IsTooMuch Run old new input place before now = (place ≡ 2 ^ 32) × (2 ^ 32 < length input) × AnswersWithin AreTexts (page_count old.size) old new input before now
-IsTooMuch Serve old new input place before now = (place ≡ 2 ^ 32) × (2 ^ 32 < length input) × AnswersWithin Spelled (page_count old.size) old new input before now
+IsTooMuch Run old new input place before now = (place ≡ 2 ^ 32) × (2 ^ 32 < length input)
+    × AnswersWithin AreTexts (page_count old.size) old new input before now
+IsTooMuch Serve old new input place before now = (place ≡ 2 ^ 32) × (2 ^ 32 < length input)
+    × AnswersWithin Spelled (page_count old.size) old new input before now
 IsTooMuch Draw old new input place before now = (place ≡ 2 ^ 32) × DrawsWithin None input before now
 IsTooMuch Init old new input place before now = ⊥
-IsTooMuch (Load name) old new input place before now = (place ≡ 2 ^ 32) × (2 ^ 32 < length input) × LoadsWithin name (page_count old.size) old new input
+IsTooMuch (Load name) old new input place before now = (place ≡ 2 ^ 32) × (2 ^ 32 < length input)
+    × LoadsWithin name (page_count old.size) old new input
 IsTooMuch (Demo seed rounds) old new input place before now = ⊥
 IsTooMuch Check old new input place before now = ⊥
 IsTooMuch ListSeries old new input place before now = ⊥
 IsTooMuch (Export name window) old new input place before now = ⊥
-IsTooMuch Retain old new input place before now = (place ≡ 2 ^ 32) × (2 ^ 32 < length input) × RetainsWithin (page_count old.size) old new input before now
+IsTooMuch Retain old new input place before now = (place ≡ 2 ^ 32) × (2 ^ 32 < length input)
+    × RetainsWithin (page_count old.size) old new input before now
 IsTooMuch (Cover every) old new input place before now = (place ≡ 2 ^ 32) × DrawsWithin (Some every) input before now
-IsTooMuch Live old new input place before now = (place ≡ 2 ^ 32) × (2 ^ 32 < length input) × LivesWithin (page_count old.size) old new input before now
-IsTooMuch Host old new input place before now = (place ≡ most_bytes) × (most_bytes < length input) × HostsWithin (page_count old.size) old new input before now
-IsTooMuch Derive old new input place before now = (place ≡ 2 ^ 32) × (2 ^ 32 < length input) × DerivesWithin (page_count old.size) old input before now
+IsTooMuch Live old new input place before now = (place ≡ 2 ^ 32) × (2 ^ 32 < length input)
+    × LivesWithin (page_count old.size) old new input before now
+IsTooMuch Host old new input place before now = (place ≡ most_bytes) × (most_bytes < length input)
+    × HostsWithin (page_count old.size) old new input before now
+IsTooMuch Derive old new input place before now = (place ≡ 2 ^ 32) × (2 ^ 32 < length input)
+    × DerivesWithin (page_count old.size) old input before now
 
 -- A line, which begins at this place, names a series that isn't there. The lines before it were swept and answered.
 abbrev pub IsUnknown : Command → View → View → List ℕ → ℕ → Option (List ℕ) → Option (List ℕ) → Type 0
@@ -331,7 +358,8 @@ IsRefusedLine command old input place before now = ⊥
 abbrev pub IsRefused : Command → View → View → List ℕ → Option (List ℕ) → ℕ → Type 0
 IsRefused (Load name) old new input left place =
     RefusesSet name (page_count old.size) old new input place
-    × Unnamed (page_count old.size) old name (λ total book. (place ≡ 8) × (left ≡ Some input) × HoldsBook (page_count old.size) total book new)
+    × Unnamed (page_count old.size) old name (λ total book. (place ≡ 8) × (left ≡ Some input)
+    × HoldsBook (page_count old.size) total book new)
 IsRefused (Export name window) old new input left place = (place ≡ 8) × HasNone (page_count old.size) old name
 IsRefused command old new input left place = ⊥
 
@@ -435,7 +463,8 @@ IsStreaming Derive = ⊤
 IsStreaming command = ⊥
 
 -- What a command did, sent and left, and why it ended, by the status: the clauses of the program's call, of one command.
-pub record CommandEnds (command : Command) (old new : View) (left left' before now : Option (List ℕ)) (faults : Faults) (code place : ℕ) : Type 0 where
+pub record CommandEnds (command : Command) (old new : View) (left left' before now : Option (List ℕ)) (faults : Faults)
+    (code place : ℕ) : Type 0 where
   pub codes : Contains (0 ∷ 3 ∷ 4 ∷ 5 ∷ 6 ∷ 7 ∷ 8 ∷ 9 ∷ 10 ∷ 11 ∷ 12 ∷ 13 ∷ 14 ∷ 15 ∷ 16 ∷ 17 ∷ []) code
   pub own : Contains (codes_of command) code
   pub away : IsOverStore command → old.size < 128 → IsTurnedAway left left' before now code

@@ -58,7 +58,8 @@ pub record SendsDrawings (AreSo : List (Option Canvas) → Type 0) (before now :
   pub sent : now ≡ sent_after (flat_map picture_bytes drawings) before
 
 -- drawings of these frames are so, and their pictures were sent, each behind its covers
-pub record CoversDrawings (every : ℕ) (frames : List Frame) (AreSo : List (Option Canvas) → Type 0) (before now : Option (List ℕ)) : Type 0 where
+pub record CoversDrawings (every : ℕ) (frames : List Frame) (AreSo : List (Option Canvas)
+    → Type 0) (before now : Option (List ℕ)) : Type 0 where
   pub drawings : List (Option Canvas)
   pub pictured : AreSo drawings
   pub holdings : List Holding
@@ -78,15 +79,20 @@ pub record DrawsBook (every : Option ℕ) (input : List ℕ) (before now : Optio
   pub all : (old new : State) (lines : List (Option (List ℕ))) (frames : List Frame) → AreReplies old lines frames new
       → input ≡ flat_map spelling frames → SendsSo every frames (λ drawings. ArePictured old lines frames drawings new) before now
   pub own : (n : ℕ) (old new : State) (lines : List (Option (List ℕ))) (frames : List Frame) → AreReplies old lines frames new
-      → input ≡ flat_map spelling (filter (names n) frames) → SendsSo every (filter (names n) frames) (λ drawings. AreOwnPictured n old lines frames drawings new) before now
+      → input ≡ flat_map spelling (filter (names n) frames)
+      → SendsSo every (filter (names n) frames) (λ drawings. AreOwnPictured n old lines frames drawings new) before now
   pub live : (old new : LiveState) (asked : List ℕ) (frames : List Frame) → AreLived old asked frames new
-      → input ≡ flat_map spelling frames → SendsSo every frames (λ drawings. runs.PicturesLines (told asked) frames drawings old new) before now
+      → input ≡ flat_map spelling frames → SendsSo every frames
+      (λ drawings. runs.PicturesLines (told asked) frames drawings old new) before now
   pub own_live : (n : ℕ) (old new : LiveState) (asked : List ℕ) (frames : List Frame) → AreLived old asked frames new
-      → input ≡ flat_map spelling (filter (names n) frames) → SendsSo every (filter (names n) frames) (λ drawings. runs.PicturesOwn n (told asked) frames drawings old new) before now
+      → input ≡ flat_map spelling (filter (names n) frames)
+      → SendsSo every (filter (names n) frames) (λ drawings. runs.PicturesOwn n (told asked) frames drawings old new) before now
   pub host : (old new : LiveState) (asked : List ℕ) (frames : List Frame) → AreHosted old asked frames new
-      → input ≡ flat_map spelling frames → SendsSo every frames (λ drawings. hosts.PicturesLines (told asked) frames drawings old new) before now
+      → input ≡ flat_map spelling frames → SendsSo every frames
+      (λ drawings. hosts.PicturesLines (told asked) frames drawings old new) before now
   pub own_host : (n : ℕ) (old new : LiveState) (asked : List ℕ) (frames : List Frame) → AreHosted old asked frames new
-      → input ≡ flat_map spelling (filter (names n) frames) → SendsSo every (filter (names n) frames) (λ drawings. hosts.PicturesOwn n (told asked) frames drawings old new) before now
+      → input ≡ flat_map spelling (filter (names n) frames)
+      → SendsSo every (filter (names n) frames) (λ drawings. hosts.PicturesOwn n (told asked) frames drawings old new) before now
 
 -- with no covers, and with them
 abbrev pub DrawsReplies : List ℕ → Option (List ℕ) → Option (List ℕ) → Type 0

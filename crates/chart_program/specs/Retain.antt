@@ -7,7 +7,8 @@ use Rattle.disk_store.specs.Held.{HoldsBook}
 use Rattle.gate_pages.specs.Journal.{page_count}
 use Rattle.retain_command.specs.Answered.{AnswersSo}
 use Rattle.retain_command.specs.Answers.{AreRules}
-use Rattle.retain_command.specs.Retained.{IsAtLine, LeavesSwept, RetainsAll, RetainsLines, RetainsPart, RetainsSome, RetainsTaken, RetainsToBad}
+use Rattle.retain_command.specs.Retained.{IsAtLine, LeavesSwept, RetainsAll, RetainsLines, RetainsPart, RetainsSome, RetainsTaken}
+use Rattle.retain_command.specs.Retained.{RetainsToBad}
 use Rattle.retain_command.specs.Retained.{RetainsFew, RetainsToUnknown, RetainsWithin}
 use Rattle.retention.specs.Damage.{IsBadForSweep}
 use Rattle.retention.specs.declared.rule.Rule.{Rule}
@@ -16,7 +17,8 @@ use Rattle.run_ends.specs.declared.ending.End.TheVariants.{Done, NoMemory, ReadF
 use Rattle.run_ends.specs.declared.ending.End.TheVariants.{BadInput, InputTooLong, TooSmall, NoSeries}
 use Rattle.series_book.specs.declared.one_series.Series.{Series}
 use Rattle.stored_book.specs.Damage.{IsBadForRequest}
-use Rattle.chart_program.specs.Course.{AtEachMoment, Course, FoundDamaged, FoundPage, HasFewBlocks, HeldNoBook, IsDoneOrCut, IsLonger, IsShort}
+use Rattle.chart_program.specs.Course.{AtEachMoment, Course, FoundDamaged, FoundPage, HasFewBlocks, HeldNoBook, IsDoneOrCut, IsLonger}
+use Rattle.chart_program.specs.Course.{IsShort}
 use Rattle.chart_program.specs.Course.{OfInput, OverStore, Told, count}
 
 -- what it did and sent, by how it ended; at a fault of the disk what that holds is said by the moments

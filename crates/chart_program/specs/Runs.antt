@@ -64,7 +64,8 @@ run_answer (Err (answers.Serve end)) = Err (Serve end)
 run_answer (Err (answers.Reply end)) = Err end
 
 -- The text for some first lines was sent, lines behind them were done ahead, and showing their first frame gave this error.
-pub record ShowFails {V : Type 0} (gives : Gives V) (shown shown' : V) (input : List ℕ) (old new : State) (before now : Option (List ℕ)) (e : ClientError) : Type 0 where
+pub record ShowFails {V : Type 0} (gives : Gives V) (shown shown' : V) (input : List ℕ) (old new : State) (before now : Option (List ℕ))
+    (e : ClientError) : Type 0 where
   pub rest : List ℕ
   pub between : State
   pub screen : V
@@ -76,20 +77,24 @@ pub record ShowFails {V : Type 0} (gives : Gives V) (shown shown' : V) (input : 
   pub fails : gives screen (spelling frame) (Err e) shown'
 
 -- why not all lines of the input were answered, and what was sent, where the pages stand for a book then
-abbrev pub EndsRunAt : {V : Type 0} → Gives V → V → V → List ℕ → State → State → Option (List ℕ) → Option (List ℕ) → Option (List ℕ) → RunEnd → Type 0
+abbrev pub EndsRunAt : {V : Type 0} → Gives V → V → V → List ℕ → State → State → Option (List ℕ) → Option (List ℕ) → Option (List ℕ)
+    → RunEnd → Type 0
 EndsRunAt gives shown shown' input old new left before now (Serve ReadFault) =
     IfSome left (λ bytes. SendsTaken (AreShown gives shown shown') input bytes old new before now)
-EndsRunAt gives shown shown' input old new left before now (Serve SendFault) = SendsFrontOf (AreShown gives shown shown') input old new before now
+EndsRunAt gives shown shown' input old new left before now (Serve SendFault) = SendsFrontOf
+    (AreShown gives shown shown') input old new before now
 EndsRunAt gives shown shown' input old new left before now (Serve DiskFault) = ⊥
 EndsRunAt gives shown shown' input old new left before now (Serve (Damaged page)) = ⊥
-EndsRunAt gives shown shown' input old new left before now (Serve InputTooLong) = SendsWithin (AreShown gives shown shown') input old new before now
+EndsRunAt gives shown shown' input old new left before now (Serve InputTooLong) = SendsWithin
+    (AreShown gives shown shown') input old new before now
 EndsRunAt {V} gives shown shown' input old new left before now (Serve NoMemory) =
     (screen : V) × SendsSome (AreShown gives shown screen) input old new before now
 EndsRunAt gives shown shown' input old new left before now (Show e) = ShowFails gives shown shown' input old new before now e
 
 -- Why not all lines of the input were answered, and what was sent. Where it is no fault of the disk, the pages stand for
 -- a book then; no page is damaged.
-abbrev pub EndsRun : {V : Type 0} → Gives V → V → V → Option (List ℕ) → State → Image → List Session → Option (List ℕ) → Option (List ℕ) → Option (List ℕ) → RunEnd → Type 0
+abbrev pub EndsRun : {V : Type 0} → Gives V → V → V → Option (List ℕ) → State → Image → List Session → Option (List ℕ) → Option (List ℕ)
+    → Option (List ℕ) → RunEnd → Type 0
 EndsRun {V} gives shown shown' o old image sessions left before now (Serve DiskFault) =
     (screen : V) × IfSome o (λ input. SendsLines (AreShown gives shown screen) input old before now)
 EndsRun gives shown shown' o old image sessions left before now (Serve (Damaged page)) = ⊥
@@ -107,6 +112,8 @@ IsShown gives (Serve end) = ⊤
 IsShown {V} gives (Show e) = (old : V) × (bytes : List ℕ) × (new : V) × gives old bytes (Err e) new
 
 -- why not all lines of a service's input were answered, and what was sent
-abbrev pub RunEndsBy : {P V : Type 0} {g : Ghosts P} → (P → Option (List ℕ)) → (P → Option (List ℕ)) → Gives V → V → V → ℕ → List Series → Service P g → Service P g → RunEnd → Type 0
+abbrev pub RunEndsBy : {P V : Type 0} {g : Ghosts P} → (P → Option (List ℕ)) → (P → Option (List ℕ)) → Gives V → V → V → ℕ → List Series
+    → Service P g → Service P g → RunEnd → Type 0
 RunEndsBy left sent gives shown shown' total book old new =
-    EndsRun gives shown shown' (left (service.pages old)) (service.state old total book) (service.image new) (service.sessions new) (left (service.pages new)) (sent (service.pages old)) (sent (service.pages new))
+    EndsRun gives shown shown' (left (service.pages old)) (service.state old total book) (service.image new) (service.sessions new)
+    (left (service.pages new)) (sent (service.pages old)) (sent (service.pages new))

@@ -10,7 +10,8 @@ use Rattle.run_ends.specs.declared.ending.End.TheVariants.{InputTooLong, TooSmal
 use Rattle.series_book.specs.declared.one_series.Series.{Series}
 use Rattle.stored_book.specs.Damage.{IsBadForRequest}
 use Rattle.chart_program.specs.Blamed.{IsBlamed}
-use Rattle.chart_program.specs.Course.{AtEachMoment, Course, FoundDamaged, FoundPage, HasFewBlocks, HeldNoBook, IsDoneOrCut, IsLonger, IsShort}
+use Rattle.chart_program.specs.Course.{AtEachMoment, Course, FoundDamaged, FoundPage, HasFewBlocks, HeldNoBook, IsDoneOrCut, IsLonger}
+use Rattle.chart_program.specs.Course.{IsShort}
 use Rattle.chart_program.specs.Course.{OfInput, OverStore, Told, ToldLeft}
 use Rattle.chart_program.specs.LineAnswers.{AreSpellings, NoneIsPassed}
 use Rattle.chart_program.specs.Served.{AnswersAll, AnswersFront, AnswersLines, AnswersSome, AnswersTaken, AnswersWithin, LeavesBooks}

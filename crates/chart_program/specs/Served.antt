@@ -47,31 +47,38 @@ Spelled start = AreSpelled
 
 -- the lines of the whole input were answered so
 abbrev pub AnswersAll : Says → ℕ → View → View → List ℕ → Option (List ℕ) → Option (List ℕ) → Type 0
-AnswersAll IsText count old new input before now = FromBook count old new (λ start state. SendsText (IsText start) input start state before now)
+AnswersAll IsText count old new input before now = FromBook count old new
+    (λ start state. SendsText (IsText start) input start state before now)
 
 -- the first bytes of what answers the first lines were sent; lines behind them may have been done too
 abbrev pub AnswersFront : Says → ℕ → View → View → List ℕ → Option (List ℕ) → Option (List ℕ) → Type 0
-AnswersFront IsText count old new input before now = FromBook count old new (λ start state. SendsFrontOf (IsText start) input start state before now)
+AnswersFront IsText count old new input before now = FromBook count old new
+    (λ start state. SendsFrontOf (IsText start) input start state before now)
 
 -- all lines whose line feeds were among the bytes taken were answered, and these bytes are left
 abbrev pub AnswersTaken : Says → ℕ → View → View → List ℕ → List ℕ → Option (List ℕ) → Option (List ℕ) → Type 0
-AnswersTaken IsText count old new input bytes before now = FromBook count old new (λ start state. SendsTaken (IsText start) input bytes start state before now)
+AnswersTaken IsText count old new input bytes before now = FromBook count old new
+    (λ start state. SendsTaken (IsText start) input bytes start state before now)
 
 -- all lines that ended among the first 2^32 bytes were answered, and there is a byte more
 abbrev pub AnswersWithin : Says → ℕ → View → View → List ℕ → Option (List ℕ) → Option (List ℕ) → Type 0
-AnswersWithin IsText count old new input before now = FromBook count old new (λ start state. SendsWithin (IsText start) input start state before now)
+AnswersWithin IsText count old new input before now = FromBook count old new
+    (λ start state. SendsWithin (IsText start) input start state before now)
 
 -- some first lines were answered; lines behind them may have been done too
 abbrev pub AnswersSome : Says → ℕ → View → View → List ℕ → Option (List ℕ) → Option (List ℕ) → Type 0
-AnswersSome IsText count old new input before now = FromBook count old new (λ start state. SendsSome (IsText start) input start state before now)
+AnswersSome IsText count old new input before now = FromBook count old new
+    (λ start state. SendsSome (IsText start) input start state before now)
 
 -- some first lines were answered, at a fault of the disk: what it holds then is said by the moments of the run
 abbrev pub AnswersLines : Says → ℕ → View → List ℕ → Option (List ℕ) → Option (List ℕ) → Type 0
-AnswersLines IsText count old input before now = OfBook count old (λ total book. SendsLines (IsText (begun total book)) input (begun total book) before now)
+AnswersLines IsText count old input before now = OfBook count old
+    (λ total book. SendsLines (IsText (begun total book)) input (begun total book) before now)
 
 -- why not all lines were answered, and what was sent
 abbrev pub EndsServing : Says → ℕ → View → View → List ℕ → Option (List ℕ) → Option (List ℕ) → Option (List ℕ) → ServeEnd → Type 0
-EndsServing IsText count old new input left before now serve_end.ReadFault = IfSome left (λ bytes. AnswersTaken IsText count old new input bytes before now)
+EndsServing IsText count old new input left before now serve_end.ReadFault = IfSome left
+    (λ bytes. AnswersTaken IsText count old new input bytes before now)
 EndsServing IsText count old new input left before now serve_end.SendFault = AnswersFront IsText count old new input before now
 EndsServing IsText count old new input left before now serve_end.DiskFault = AnswersLines IsText count old input before now
 EndsServing IsText count old new input left before now (serve_end.Damaged page) = Never count old
@@ -88,7 +95,8 @@ EndsLines IsText count old new input left before now (run_end.Show e) = Never co
 
 -- The image recovers to a book that is ahead of the start's: each edit whose answer was sent whole by then is in it, and
 -- at most 64 edits more.
-pub record IsAheadOn (IsText : List (Option (List ℕ)) → List Frame → List ℕ → Type 0) (input : List ℕ) (count total : ℕ) (start : State) (from : ℕ) (image : Image) (sent : ℕ) : Type 0 where
+pub record IsAheadOn (IsText : List (Option (List ℕ)) → List Frame → List ℕ
+    → Type 0) (input : List ℕ) (count total : ℕ) (start : State) (from : ℕ) (image : Image) (sent : ℕ) : Type 0 where
   pub readable : IsReadable count image
   pub within : total ≤ count
   pub old : KeepsOldStore count image
@@ -97,7 +105,8 @@ pub record IsAheadOn (IsText : List (Option (List ℕ)) → List Frame → List 
 -- at each moment from old to new a crash leaves such an image
 abbrev pub LeavesBooks : Says → ℕ → List ℕ → View → View → Type 0
 LeavesBooks IsText count input old new =
-    OfBook count old (λ total book. Since old new (IsAheadOn (IsText (begun total book)) input count total (begun total book) (sent_now old)))
+    OfBook count old (λ total book. Since old new (IsAheadOn (IsText (begun total book)) input count total (begun total book)
+    (sent_now old)))
 
 -- ---- how much is read, and how often the disk is synced
 
@@ -107,7 +116,8 @@ ReadsFrom count old new input from = OfBook count old (λ total book. ReadsLines
 
 -- they sync no more often than they may, from this count on, where the pieces are counted
 abbrev pub SyncsFrom : ℕ → View → View → List ℕ → ℕ → Type 0
-SyncsFrom count old new input from = OfBook count old (λ total book. new.beside.pieces < 2 ^ 64 - 1 → SyncsLines input total book (new.beside.pieces - old.beside.pieces) from new.syncs)
+SyncsFrom count old new input from = OfBook count old (λ total book. new.beside.pieces < 2 ^ 64 - 1
+    → SyncsLines input total book (new.beside.pieces - old.beside.pieces) from new.syncs)
 
 -- an opening reads 200 blocks at most, and then the lines read
 abbrev pub ReadsServing : View → View → List ℕ → Type 0
@@ -115,7 +125,8 @@ ReadsServing old new input = (opened : ℕ) × (opened ≤ old.reads + 200) × R
 
 -- an opening syncs as often as it may, and then the lines sync
 abbrev pub SyncsServing : View → View → List ℕ → Type 0
-SyncsServing old new input = (opened : ℕ) × SyncsOpening (page_count old.size) old opened × SyncsFrom (page_count old.size) old new input opened
+SyncsServing old new input = (opened : ℕ) × SyncsOpening (page_count old.size) old opened
+    × SyncsFrom (page_count old.size) old new input opened
 
 -- ---- frames that can't be used
 
@@ -148,17 +159,21 @@ abbrev pub IsLinesCause : Type 0 → ℕ → View → View → Option (List ℕ)
 IsLinesCause CanShow count old new before now faults (run_end.Serve serve_end.ReadFault) = HasRisen faults.reads faults.reads_now
 IsLinesCause CanShow count old new before now faults (run_end.Serve serve_end.SendFault) = HasRisen faults.sends faults.sends_now
 IsLinesCause CanShow count old new before now faults (run_end.Serve serve_end.DiskFault) = HasRisen old.faults new.faults
-IsLinesCause CanShow count old new before now faults (run_end.Serve (serve_end.Damaged page)) = IsDamagedLater IsBadForRequest count new (block_of page)
+IsLinesCause CanShow count old new before now faults (run_end.Serve (serve_end.Damaged page)) = IsDamagedLater IsBadForRequest count new
+    (block_of page)
 IsLinesCause CanShow count old new before now faults (run_end.Serve serve_end.InputTooLong) = ⊤
 IsLinesCause CanShow count old new before now faults (run_end.Serve serve_end.NoMemory) = ⊤
-IsLinesCause CanShow count old new before now faults (run_end.Show (client.Missing key)) = CanShow × (key.index < 2 ^ 40) × RejectsNext (client.Missing key) before now
-IsLinesCause CanShow count old new before now faults (run_end.Show (client.BadCoefficient key)) = CanShow × (key.index < 2 ^ 40) × RejectsNext (client.BadCoefficient key) before now
+IsLinesCause CanShow count old new before now faults (run_end.Show (client.Missing key)) = CanShow × (key.index < 2 ^ 40)
+    × RejectsNext (client.Missing key) before now
+IsLinesCause CanShow count old new before now faults (run_end.Show (client.BadCoefficient key)) = CanShow × (key.index < 2 ^ 40)
+    × RejectsNext (client.BadCoefficient key) before now
 IsLinesCause CanShow count old new before now faults (run_end.Show (client.UnknownSession number)) = ⊥
 IsLinesCause CanShow count old new before now faults (run_end.Show client.NoMemory) = ⊤
 
 -- What a command did that serves the lines of its input over a store: what it sent, what the disk holds then and held at
 -- each moment, and why it ended.
-pub record ServesLines {T : Type 0} (IsText : Says) (CanShow : Type 0) (count : ℕ) (old new : View) (left left' before now : Option (List ℕ)) (faults : Faults) (answer : Result T RunEnd) : Type 0 where
+pub record ServesLines {T : Type 0} (IsText : Says) (CanShow : Type 0) (count : ℕ) (old new : View)
+    (left left' before now : Option (List ℕ)) (faults : Faults) (answer : Result T RunEnd) : Type 0 where
   pub done : OnOk answer (IfSome left (λ input. AnswersAll IsText count old new input before now))
   pub within : OnOk answer (WasRead left left')
   pub long : answer ≡ Err (run_end.Serve serve_end.InputTooLong) → IsLong left
@@ -180,7 +195,8 @@ served (Err end) = Err (run_end.Serve end)
 -- why not all lines were answered, where the store is opened first
 abbrev pub IsWorldCause : Type 0 → View → View → Option (List ℕ) → Option (List ℕ) → Faults → LinesEnd → Type 0
 IsWorldCause CanShow old new before now faults (lines_end.Opening cause) = Prevents cause old new
-IsWorldCause CanShow old new before now faults (lines_end.Answering end) = IsLinesCause CanShow (page_count old.size) old new before now faults end
+IsWorldCause CanShow old new before now faults (lines_end.Answering end) = IsLinesCause CanShow
+    (page_count old.size) old new before now faults end
 
 abbrev pub EndsOpening : Says → View → View → List ℕ → Option (List ℕ) → Option (List ℕ) → OpeningCause → Type 0
 EndsOpening IsText old new input before now (opening.TooSmall size) = now ≡ before
@@ -190,17 +206,20 @@ EndsOpening IsText old new input before now opening.NoMemory = AnswersSome IsTex
 
 abbrev pub EndsWorld : Says → View → View → List ℕ → Option (List ℕ) → Option (List ℕ) → Option (List ℕ) → LinesEnd → Type 0
 EndsWorld IsText old new input left before now (lines_end.Opening cause) = EndsOpening IsText old new input before now cause
-EndsWorld IsText old new input left before now (lines_end.Answering end) = EndsLines IsText (page_count old.size) old new input left before now end
+EndsWorld IsText old new input left before now (lines_end.Answering end) = EndsLines IsText
+    (page_count old.size) old new input left before now end
 
 -- the same of a command that opens the store of its disk and serves lines over it
-pub record ServesWorld {T : Type 0} (IsText : Says) (CanShow : Type 0) (old new : View) (left left' before now : Option (List ℕ)) (faults : Faults) (answer : Result T LinesEnd) : Type 0 where
+pub record ServesWorld {T : Type 0} (IsText : Says) (CanShow : Type 0) (old new : View) (left left' before now : Option (List ℕ))
+    (faults : Faults) (answer : Result T LinesEnd) : Type 0 where
   pub done : OnOk answer (IfSome left (λ input. AnswersAll IsText (page_count old.size) old new input before now))
   pub within : OnOk answer (WasRead left left')
   pub long : answer ≡ Err (lines_end.Answering (run_end.Serve serve_end.InputTooLong)) → IsLong left
   pub ends : IfErr answer (λ end. IfSome left (λ input. EndsWorld IsText old new input left' before now end))
   pub crash : IfSome left (λ input. IfSome before (λ bytes. LeavesBooks IsText (page_count old.size) input old new))
   pub cause : IfErr answer (λ end. IsWorldCause CanShow old new before now faults end)
-  pub holds : answer ≢ Err (lines_end.Answering (run_end.Serve serve_end.DiskFault)) → IfSome left (λ input. HoldsAgain (page_count old.size) old new)
+  pub holds : answer ≢ Err (lines_end.Answering (run_end.Serve serve_end.DiskFault))
+      → IfSome left (λ input. HoldsAgain (page_count old.size) old new)
   pub reads : IfSome left (λ input. ReadsServing old new input)
   pub syncs : IfSome left (λ input. SyncsServing old new input)
   pub honest : Honest old → Honest new

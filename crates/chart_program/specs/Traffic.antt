@@ -12,9 +12,11 @@ use Rattle.chart_program.specs.declared.lines_end.LinesEnd.{LinesEnd}
 use Rattle.chart_program.specs.declared.run_end.RunEnd.{RunEnd}
 
 -- over the pages of an open store on a world
-abbrev pub PagesServed : {W T : Type 0} {disk : Ghosts W} → Says → Type 0 → (W → View) → GatePages W disk → W → Traffic → Result T RunEnd → Type 0
+abbrev pub PagesServed : {W T : Type 0} {disk : Ghosts W} → Says → Type 0 → (W → View) → GatePages W disk → W → Traffic → Result T RunEnd
+    → Type 0
 PagesServed IsText CanShow view pages new t answer =
-    ServesLines IsText CanShow (gate.count pages) (view (gate.disk pages)) (view new) t.left t.left_now t.sent t.sent_now (faults_of t.reads t.reads_now t.sends t.sends_now) answer
+    ServesLines IsText CanShow (gate.count pages) (view (gate.disk pages)) (view new) t.left t.left_now t.sent t.sent_now
+    (faults_of t.reads t.reads_now t.sends t.sends_now) answer
 
 -- where the store is opened first
 abbrev pub WorldServed : {T : Type 0} → Says → Type 0 → View → View → Traffic → Result T LinesEnd → Type 0
@@ -24,4 +26,5 @@ WorldServed IsText CanShow old new t answer =
 -- and by its status
 abbrev pub EndsInStatus : Says → Type 0 → View → View → Traffic → Status → Type 0
 EndsInStatus IsText CanShow old new t status =
-    EndsBy IsText CanShow old new t.left t.left_now t.sent t.sent_now (faults_of t.reads t.reads_now t.sends t.sends_now) status.code status.place
+    EndsBy IsText CanShow old new t.left t.left_now t.sent t.sent_now
+    (faults_of t.reads t.reads_now t.sends t.sends_now) status.code status.place

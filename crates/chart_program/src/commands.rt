@@ -51,7 +51,8 @@ pub(crate) fn status_of_command<W: World>(
     mut world: W,
 ) -> (Status, W)
     requires { HasOperands command }
-    ensures ends { EndsCommand command (W.view world) (W.view result.1) (traffic W.left W.sent W.read_faults W.send_faults world result.1) result.0 }
+    ensures ends { EndsCommand command (W.view world) (W.view result.1)
+        (traffic W.left W.sent W.read_faults W.send_faults world result.1) result.0 }
     ensures does { Does command (course W.view W.left W.sent world result.1) result.0 }
     ensures faults { CountsFault (code_fault result.0.code) (W.view world) (W.view result.1) }
 {
@@ -132,7 +133,8 @@ fn init<W: World>(alloc: Global, world: W) -> (End, W)
     ensures disk { LeavesMade (W.view world) (W.view result.1) }
     ensures honest { Honest (W.view world) → Honest (W.view result.1) }
     ensures faults { CountsFault (end_fault result.0) (W.view world) (W.view result.1) }
-    ensures ready { IsFree (W.view world) → (HasRisen (W.view world).faults (W.view result.1).faults → ⊥) → (result.0 ≡ End.Done) ⊎ (result.0 ≡ End.NoMemory) }
+    ensures ready { IsFree (W.view world) → (HasRisen (W.view world).faults (W.view result.1).faults → ⊥) → (result.0 ≡ End.Done)
+        ⊎ (result.0 ≡ End.NoMemory) }
 {
     match make_store(alloc, world) {
         Ok(world) => (End::Done, world),
@@ -156,7 +158,8 @@ fn init_end(cause: InitCause) -> End
 fn plot_status<W: World>(alloc: Global, w: u16, h: u16, world: &mut W) -> Status
     requires wide { IsSide w }
     requires high { IsSide h }
-    ensures ends { EndsCommand (Plot w h) (W.view world.old) (W.view world.new) (traffic W.left W.sent W.read_faults W.send_faults world.old world.new) result }
+    ensures ends { EndsCommand (Plot w h) (W.view world.old) (W.view world.new)
+        (traffic W.left W.sent W.read_faults W.send_faults world.old world.new) result }
     ensures does { EndsSo result (OfPlot w h (course W.view W.left W.sent world.old world.new)) }
     ensures faults { CountsFault (code_fault result.code) (W.view world.old) (W.view world.new) }
 {
@@ -183,7 +186,8 @@ fn plotting_end(answer: Result<(), PlotEnd>) -> End
 
 /// Sends the pictures of the input's frames, and says how that ended.
 fn draw_status<W: World>(alloc: Global, world: &mut W) -> Status
-    ensures ends { EndsCommand Draw (W.view world.old) (W.view world.new) (traffic W.left W.sent W.read_faults W.send_faults world.old world.new) result }
+    ensures ends { EndsCommand Draw (W.view world.old) (W.view world.new)
+        (traffic W.left W.sent W.read_faults W.send_faults world.old world.new) result }
     ensures does { EndsSo result (Draws None (course W.view W.left W.sent world.old world.new)) }
     ensures faults { CountsFault (code_fault result.code) (W.view world.old) (W.view world.new) }
 {
@@ -199,7 +203,8 @@ fn draw_status<W: World>(alloc: Global, world: &mut W) -> Status
 /// Sends the pictures of the input's frames, each behind its covers, and says how that ended.
 fn cover_status<W: World>(alloc: Global, every: u32, world: &mut W) -> Status
     requires { IsEvery every }
-    ensures ends { EndsCommand (Cover every) (W.view world.old) (W.view world.new) (traffic W.left W.sent W.read_faults W.send_faults world.old world.new) result }
+    ensures ends { EndsCommand (Cover every) (W.view world.old) (W.view world.new)
+        (traffic W.left W.sent W.read_faults W.send_faults world.old world.new) result }
     ensures does { EndsSo result (Draws (Some every) (course W.view W.left W.sent world.old world.new)) }
     ensures faults { CountsFault (code_fault result.code) (W.view world.old) (W.view world.new) }
 {

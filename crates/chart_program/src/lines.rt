@@ -31,9 +31,11 @@ use std::alloc::Global;
 /// Opens the store of a world, sends the frames that answer the lines of the input, and gives the world
 /// back.
 pub fn serve_world<W: World>(alloc: Global, world: W) -> (Result<(), LinesEnd>, W)
-    ensures serves { WorldServed Spelled ⊥ (W.view world) (W.view result.1) (traffic W.left W.sent W.read_faults W.send_faults world result.1) result.0 }
+    ensures serves { WorldServed Spelled ⊥ (W.view world) (W.view result.1)
+        (traffic W.left W.sent W.read_faults W.send_faults world result.1) result.0 }
     ensures answers { AnswersTold AreSpellings (W.left world) (W.sent world) (W.sent result.1) result.0 }
-    ensures blames { IfErr result.0 (WorldBlames AreSpellings (W.view world) (W.view result.1) (W.left world) (W.sent world) (W.sent result.1)) }
+    ensures blames { IfErr result.0 (WorldBlames AreSpellings (W.view world) (W.view result.1) (W.left world) (W.sent world)
+        (W.sent result.1)) }
     ensures first { OpensFirst (W.view world) (traffic W.left W.sent W.read_faults W.send_faults world result.1) result.0 }
     ensures faults { CountsFault (code_fault (status_by result.0).code) (W.view world) (W.view result.1) }
 {
@@ -49,9 +51,11 @@ pub fn serve_world<W: World>(alloc: Global, world: W) -> (Result<(), LinesEnd>, 
 /// Opens the store of a world, sends the texts that answer the lines of the input, each with the picture
 /// of what it shows, and gives the world back.
 pub fn run_world<W: World>(alloc: Global, world: W) -> (Result<(), LinesEnd>, W)
-    ensures serves { WorldServed AreTexts (Unit {0}) (W.view world) (W.view result.1) (traffic W.left W.sent W.read_faults W.send_faults world result.1) result.0 }
+    ensures serves { WorldServed AreTexts (Unit {0}) (W.view world) (W.view result.1)
+        (traffic W.left W.sent W.read_faults W.send_faults world result.1) result.0 }
     ensures answers { AnswersTold AreDrawnTexts (W.left world) (W.sent world) (W.sent result.1) result.0 }
-    ensures blames { IfErr result.0 (WorldBlames AreDrawnTexts (W.view world) (W.view result.1) (W.left world) (W.sent world) (W.sent result.1)) }
+    ensures blames { IfErr result.0 (WorldBlames AreDrawnTexts (W.view world) (W.view result.1) (W.left world) (W.sent world)
+        (W.sent result.1)) }
     ensures first { OpensFirst (W.view world) (traffic W.left W.sent W.read_faults W.send_faults world result.1) result.0 }
     ensures faults { CountsFault (code_fault (status_by result.0).code) (W.view world) (W.view result.1) }
 {
@@ -67,9 +71,12 @@ pub fn run_world<W: World>(alloc: Global, world: W) -> (Result<(), LinesEnd>, W)
 /// The same over a store that is open.
 fn serve_lines<W: World>(alloc: Global, store: Store<GatePages<W>>) -> (Result<(), RunEnd>, W)
     requires { AreSound (stored.pages store) }
-    ensures serves { let pages = stored.pages store in PagesServed Spelled ⊥ W.view pages result.1 (traffic W.left W.sent W.read_faults W.send_faults (disk pages) result.1) result.0 }
-    ensures answers { AnswersTold AreSpellings (W.left (disk (stored.pages store))) (W.sent (disk (stored.pages store))) (W.sent result.1) result.0 }
-    ensures blames { let pages = stored.pages store in IfErr result.0 (PagesBlamed AreSpellings W.view pages result.1 (W.left (disk pages)) (W.sent (disk pages)) (W.sent result.1)) }
+    ensures serves { let pages = stored.pages store in
+        PagesServed Spelled ⊥ W.view pages result.1 (traffic W.left W.sent W.read_faults W.send_faults (disk pages) result.1) result.0 }
+    ensures answers { AnswersTold AreSpellings (W.left (disk (stored.pages store))) (W.sent (disk (stored.pages store)))
+        (W.sent result.1) result.0 }
+    ensures blames { let pages = stored.pages store in
+        IfErr result.0 (PagesBlamed AreSpellings W.view pages result.1 (W.left (disk pages)) (W.sent (disk pages)) (W.sent result.1)) }
     ensures faults { CountsFault (fault_in run_fault result.0) (W.view (disk (stored.pages store))) (W.view result.1) }
 {
     match Service::new(alloc, store) {
@@ -80,9 +87,13 @@ fn serve_lines<W: World>(alloc: Global, store: Store<GatePages<W>>) -> (Result<(
 
 fn run_lines<W: World>(alloc: Global, store: Store<GatePages<W>>) -> (Result<(), RunEnd>, W)
     requires { AreSound (stored.pages store) }
-    ensures serves { let pages = stored.pages store in PagesServed AreTexts (Unit {0}) W.view pages result.1 (traffic W.left W.sent W.read_faults W.send_faults (disk pages) result.1) result.0 }
-    ensures answers { AnswersTold AreDrawnTexts (W.left (disk (stored.pages store))) (W.sent (disk (stored.pages store))) (W.sent result.1) result.0 }
-    ensures blames { let pages = stored.pages store in IfErr result.0 (PagesBlamed AreDrawnTexts W.view pages result.1 (W.left (disk pages)) (W.sent (disk pages)) (W.sent result.1)) }
+    ensures serves { let pages = stored.pages store in
+        PagesServed AreTexts (Unit {0}) W.view pages result.1
+        (traffic W.left W.sent W.read_faults W.send_faults (disk pages) result.1) result.0 }
+    ensures answers { AnswersTold AreDrawnTexts (W.left (disk (stored.pages store))) (W.sent (disk (stored.pages store)))
+        (W.sent result.1) result.0 }
+    ensures blames { let pages = stored.pages store in
+        IfErr result.0 (PagesBlamed AreDrawnTexts W.view pages result.1 (W.left (disk pages)) (W.sent (disk pages)) (W.sent result.1)) }
     ensures faults { CountsFault (fault_in run_fault result.0) (W.view (disk (stored.pages store))) (W.view result.1) }
 {
     match Service::new(alloc, store) {
@@ -98,9 +109,12 @@ fn serve_service<W: World>(
 ) -> (Result<(), RunEnd>, W)
     requires sound { AreSound (shown.pages service) }
     requires alone { shown.sessions service ≡ [] }
-    ensures serves { let pages = shown.pages service in PagesServed Spelled ⊥ W.view pages result.1 (traffic W.left W.sent W.read_faults W.send_faults (disk pages) result.1) result.0 }
-    ensures answers { AnswersTold AreSpellings (W.left (disk (shown.pages service))) (W.sent (disk (shown.pages service))) (W.sent result.1) result.0 }
-    ensures blames { let pages = shown.pages service in IfErr result.0 (PagesBlamed AreSpellings W.view pages result.1 (W.left (disk pages)) (W.sent (disk pages)) (W.sent result.1)) }
+    ensures serves { let pages = shown.pages service in
+        PagesServed Spelled ⊥ W.view pages result.1 (traffic W.left W.sent W.read_faults W.send_faults (disk pages) result.1) result.0 }
+    ensures answers { AnswersTold AreSpellings (W.left (disk (shown.pages service))) (W.sent (disk (shown.pages service)))
+        (W.sent result.1) result.0 }
+    ensures blames { let pages = shown.pages service in
+        IfErr result.0 (PagesBlamed AreSpellings W.view pages result.1 (W.left (disk pages)) (W.sent (disk pages)) (W.sent result.1)) }
     ensures faults { CountsFault (fault_in run_fault result.0) (W.view (disk (shown.pages service))) (W.view result.1) }
 {
     let answer = serve(alloc, &mut service);
@@ -113,9 +127,13 @@ fn run_service<W: World>(
 ) -> (Result<(), RunEnd>, W)
     requires sound { AreSound (shown.pages service) }
     requires alone { shown.sessions service ≡ [] }
-    ensures serves { let pages = shown.pages service in PagesServed AreTexts (Unit {0}) W.view pages result.1 (traffic W.left W.sent W.read_faults W.send_faults (disk pages) result.1) result.0 }
-    ensures answers { AnswersTold AreDrawnTexts (W.left (disk (shown.pages service))) (W.sent (disk (shown.pages service))) (W.sent result.1) result.0 }
-    ensures blames { let pages = shown.pages service in IfErr result.0 (PagesBlamed AreDrawnTexts W.view pages result.1 (W.left (disk pages)) (W.sent (disk pages)) (W.sent result.1)) }
+    ensures serves { let pages = shown.pages service in
+        PagesServed AreTexts (Unit {0}) W.view pages result.1
+        (traffic W.left W.sent W.read_faults W.send_faults (disk pages) result.1) result.0 }
+    ensures answers { AnswersTold AreDrawnTexts (W.left (disk (shown.pages service))) (W.sent (disk (shown.pages service)))
+        (W.sent result.1) result.0 }
+    ensures blames { let pages = shown.pages service in
+        IfErr result.0 (PagesBlamed AreDrawnTexts W.view pages result.1 (W.left (disk pages)) (W.sent (disk pages)) (W.sent result.1)) }
     ensures faults { CountsFault (fault_in run_fault result.0) (W.view (disk (shown.pages service))) (W.view result.1) }
 {
     one_frame_a_spelling();

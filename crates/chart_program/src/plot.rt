@@ -44,7 +44,8 @@ pub fn plot<S: World>(alloc: Global, w: u16, h: u16, streams: &mut S) -> Result<
     ensures done { OnOk result (IfSome (S.left streams.old) (λ input. SendsPlot w h input (S.sent streams.old) (S.sent streams.new))) }
     ensures within { OnOk result (IfSome (S.left streams.old) (λ input. length input ≤ 2 ^ 32)) }
     ensures whole { OnOk result (IsReadUp (S.left streams.old) (S.left streams.new)) }
-    ensures ends { IfErr result (λ end. IfSome (S.left streams.old) (λ input. EndsPlot w h input (S.left streams.new) (S.sent streams.old) (S.sent streams.new) end)) }
+    ensures ends { IfErr result (λ end. IfSome (S.left streams.old)
+        (λ input. EndsPlot w h input (S.left streams.new) (S.sent streams.old) (S.sent streams.new) end)) }
     ensures unsent { IfErr result (λ end. end ≢ PlotEnd.SendFault → S.sent streams.new ≡ S.sent streams.old) }
     ensures read { result ≡ Err (PlotEnd.Input InputEnd.ReadFault) → HasRisen (S.read_faults streams.old) (S.read_faults streams.new) }
     ensures send { result ≡ Err PlotEnd.SendFault → HasRisen (S.send_faults streams.old) (S.send_faults streams.new) }

@@ -63,7 +63,8 @@ fn done_line(alloc: Global, slots: u64) -> Result<Vec<u8>, RunEnd>
 }
 
 fn refused_line(alloc: Global, number: u8, a: u64, b: u64) -> Result<Vec<u8>, RunEnd>
-    ensures line { IfOk result (λ text. text.items ≡ codes "refused " ++ (decimal number ++ (codes " " ++ (decimal a ++ (codes " " ++ (decimal b ++ codes "\n")))))) }
+    ensures line { IfOk result (λ text. text.items ≡ codes
+        "refused " ++ (decimal number ++ (codes " " ++ (decimal a ++ (codes " " ++ (decimal b ++ codes "\n")))))) }
     ensures memory { IfErr result (λ end. end ≡ Serve NoMemory) }
 {
     let line = format!(in alloc; "refused {number} {a} {b}\n")?;
@@ -114,7 +115,8 @@ fn off_line(alloc: Global, session: u32) -> Result<Vec<u8>, RunEnd>
 }
 
 fn view_line(alloc: Global, session: u32, sent: usize) -> Result<Vec<u8>, RunEnd>
-    ensures line { IfOk result (λ text. text.items ≡ codes "view " ++ (decimal session ++ (codes " sent " ++ (decimal sent ++ codes "\n")))) }
+    ensures line { IfOk result (λ text. text.items ≡ codes
+        "view " ++ (decimal session ++ (codes " sent " ++ (decimal sent ++ codes "\n")))) }
     ensures memory { IfErr result (λ end. end ≡ Serve NoMemory) }
 {
     let line = format!(in alloc; "view {session} sent {sent}\n")?;

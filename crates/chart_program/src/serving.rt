@@ -27,7 +27,8 @@ use store_commands::opening_status;
 /// Sends the frames that answer the lines of the input, over the store of the world's disk, and says how
 /// that ended.
 pub(crate) fn serve_status<W: World>(alloc: Global, world: W) -> (Status, W)
-    ensures ends { EndsInStatus Spelled ⊥ (W.view world) (W.view result.1) (traffic W.left W.sent W.read_faults W.send_faults world result.1) result.0 }
+    ensures ends { EndsInStatus Spelled ⊥ (W.view world) (W.view result.1)
+        (traffic W.left W.sent W.read_faults W.send_faults world result.1) result.0 }
     ensures does { EndsSo result.0 (OfServe (course W.view W.left W.sent world result.1)) }
     ensures own { Contains (codes_of Serve) result.0.code }
     ensures away { TurnsAway (W.view world) (traffic W.left W.sent W.read_faults W.send_faults world result.1) result.0 }
@@ -41,7 +42,8 @@ pub(crate) fn serve_status<W: World>(alloc: Global, world: W) -> (Status, W)
 /// Sends the texts that answer the lines of the input, each with the picture of what it shows, over the
 /// store of the world's disk, and says how that ended.
 pub(crate) fn run_status<W: World>(alloc: Global, world: W) -> (Status, W)
-    ensures ends { EndsInStatus AreTexts (Unit {0}) (W.view world) (W.view result.1) (traffic W.left W.sent W.read_faults W.send_faults world result.1) result.0 }
+    ensures ends { EndsInStatus AreTexts (Unit {0}) (W.view world) (W.view result.1)
+        (traffic W.left W.sent W.read_faults W.send_faults world result.1) result.0 }
     ensures does { EndsSo result.0 (OfRun (course W.view W.left W.sent world result.1)) }
     ensures own { Contains (codes_of Run) result.0.code }
     ensures away { TurnsAway (W.view world) (traffic W.left W.sent W.read_faults W.send_faults world result.1) result.0 }

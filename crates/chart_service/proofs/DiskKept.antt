@@ -27,7 +27,8 @@ serves_none told at = record {
   writes = omega arith;
 }
 
-pub serves_then : (told between told' : Type 0) (old mid new : View) → Serves told between old mid → Serves between told' mid new → Serves told told' old new
+pub serves_then : (told between told' : Type 0) (old mid new : View) → Serves told between old mid → Serves between told' mid new
+    → Serves told told' old new
 serves_then told between told' old mid new first second = record {
   told = λ is. second.told (first.told is);
   was_told = λ is. first.was_told (second.was_told is);
@@ -70,7 +71,8 @@ group_none told at = record {
   writes = omega arith;
 }
 
-pub group_then : (told between told' : Type 0) (old mid new : View) → GroupSteps told between old mid → GroupSteps between told' mid new → GroupSteps told told' old new
+pub group_then : (told between told' : Type 0) (old mid new : View) → GroupSteps told between old mid → GroupSteps between told' mid new
+    → GroupSteps told told' old new
 group_then told between told' old mid new first second = record {
   told = λ is. second.told (first.told is);
   was_told = λ is. first.was_told (second.was_told is);

@@ -29,7 +29,9 @@ pub views_grown : (book more : List Series) (ss : List Session) → length book 
 views_grown book more ss fits all = λ k d below. view_grown book more _ fits (all k d below)
 
 -- an accepted edit leaves this
-pub edit_after : (total : ℕ) (book : List Series) (edit : Edit) (sessions : List Session) (edited : Edited) (image : Image) → IsSound (state_of book total sessions) → apply book total edit ≡ Ok edited → StandsForBook image total edited.book → StandsAfter total image sessions (λ new. RepliedTo (EditRequest edit) (Done edited.slots) (state_of book total sessions) new)
+pub edit_after : (total : ℕ) (book : List Series) (edit : Edit) (sessions : List Session) (edited : Edited) (image : Image)
+    → IsSound (state_of book total sessions) → apply book total edit ≡ Ok edited → StandsForBook image total edited.book
+    → StandsAfter total image sessions (λ new. RepliedTo (EditRequest edit) (Done edited.slots) (state_of book total sessions) new)
 edit_after total book edit sessions edited image sound accepted stands =
     let old = state_of book total sessions in
     let new = state_of edited.book total sessions in
@@ -41,17 +43,27 @@ edit_after total book edit sessions edited image sound accepted stands =
       so = (
         subst E (sym accepted) (refl, refl),
         edit_fits book total edit edited.book edited.slots accepted is,
-        record { book = is; sessions = sound.sessions; views = views_grown book edited.book sessions (edit_leaves book total edit edited accepted).more sound.views },
+        record {
+          book = is;
+          sessions = sound.sessions;
+          views = views_grown book edited.book sessions (edit_leaves book total edit edited accepted).more sound.views;
+        },
       );
     }
 
-pub edit_done : (total : ℕ) (book : List Series) (edit : Edit) (sessions : List Session) (outcome : Outcome) (image : Image) → IsSound (state_of book total sessions) → IsDone total book edit outcome image → StandsAfter total image sessions (λ new. RepliedTo (EditRequest edit) (Done outcome.slots) (state_of book total sessions) new)
+pub edit_done : (total : ℕ) (book : List Series) (edit : Edit) (sessions : List Session) (outcome : Outcome) (image : Image)
+    → IsSound (state_of book total sessions) → IsDone total book edit outcome image
+    → StandsAfter total image sessions (λ new. RepliedTo (EditRequest edit) (Done outcome.slots) (state_of book total sessions) new)
 edit_done total book edit sessions outcome image sound is =
-    let P : ℕ → Type 0 = λ n. StandsAfter total image sessions (λ new. RepliedTo (EditRequest edit) (Done n) (state_of book total sessions) new) in
+    let P : ℕ → Type 0 = λ n. StandsAfter total image sessions
+    (λ new. RepliedTo (EditRequest edit) (Done n) (state_of book total sessions) new) in
     subst P (sym is.slots) (edit_after total book edit sessions is.edited image sound is.accepted is.stands)
 
 -- a refused one leaves all
-pub edit_refused : (total : ℕ) (book : List Series) (edit : Edit) (sessions : List Session) (refusal : Refusal) (frame : Frame) (image image' : Image) → IsSound (state_of book total sessions) → apply book total edit ≡ Err refusal → frame ≡ refused refusal → Fits frame → StandsForBook image total book → image' ≡ image → StandsAfter total image' sessions (λ new. RepliedTo (EditRequest edit) frame (state_of book total sessions) new)
+pub edit_refused : (total : ℕ) (book : List Series) (edit : Edit) (sessions : List Session) (refusal : Refusal) (frame : Frame)
+    (image image' : Image) → IsSound (state_of book total sessions) → apply book total edit ≡ Err refusal → frame ≡ refused refusal
+    → Fits frame → StandsForBook image total book → image' ≡ image
+    → StandsAfter total image' sessions (λ new. RepliedTo (EditRequest edit) frame (state_of book total sessions) new)
 edit_refused total book edit sessions refusal frame image image' sound is reply fits stands same =
     let old = state_of book total sessions in
     let E : Result Edited Refusal → Type 0 = λ r. Edits r frame old old in
@@ -62,11 +74,20 @@ edit_refused total book edit sessions refusal frame image image' sound is reply 
       so = (subst E (sym is) (record { reply = reply; state = refl }), fits, sound);
     }
 
-either : (total : ℕ) (book : List Series) (edit : Edit) (sessions : List Session) (image : Image) → IsSound (state_of book total sessions) → IsEither total book edit image → IsBeforeOrAfter (RepliedTo (EditRequest edit)) total book sessions image
+either : (total : ℕ) (book : List Series) (edit : Edit) (sessions : List Session) (image : Image) → IsSound (state_of book total sessions)
+    → IsEither total book edit image → IsBeforeOrAfter (RepliedTo (EditRequest edit)) total book sessions image
 either total book edit sessions image sound (inl stands) = inl stands
-either total book edit sessions image sound (inr after) = inr (record { frame = Done after.edited.slots; left = sessions; after = edit_after total book edit sessions after.edited image sound after.accepted after.stands })
+either total book edit sessions image sound (inr after) = inr
+    (record {
+      frame = Done after.edited.slots;
+      left = sessions;
+      after = edit_after total book edit sessions after.edited image sound after.accepted after.stands;
+    })
 
 -- a crash leaves the book from before the edit, or the edited one
-pub edit_moments : (total : ℕ) (book : List Series) (edit : Edit) (sessions : List Session) (old new : View) → IsSound (state_of book total sessions) → Passes old new (IsEither total book edit) (Quiet old) → Passes old new (IsBeforeOrAfter (RepliedTo (EditRequest edit)) total book sessions) (Quiet old)
+pub edit_moments : (total : ℕ) (book : List Series) (edit : Edit) (sessions : List Session) (old new : View)
+    → IsSound (state_of book total sessions) → Passes old new (IsEither total book edit) (Quiet old)
+    → Passes old new (IsBeforeOrAfter (RepliedTo (EditRequest edit)) total book sessions) (Quiet old)
 edit_moments total book edit sessions old new sound passes =
-    passes_weaker old new (IsEither total book edit) (IsBeforeOrAfter (RepliedTo (EditRequest edit)) total book sessions) (Quiet old) (Quiet old) (λ image is. either total book edit sessions image sound is) (λ count quiet. quiet) passes
+    passes_weaker old new (IsEither total book edit) (IsBeforeOrAfter (RepliedTo (EditRequest edit)) total book sessions) (Quiet old)
+    (Quiet old) (λ image is. either total book edit sessions image sound is) (λ count quiet. quiet) passes

@@ -50,40 +50,47 @@ error_is (Err x) e is = ap Err is
 
 -- ---- the ends of a step
 
-pub step_unread : {T F A : Type 0} (e : ServiceError) → ◌≡◌ {A = Result T (AnswerEnd F)} (Err (Serve (end_of_step e))) (Err (Serve ReadFault)) → A
+pub step_unread : {T F A : Type 0} (e : ServiceError)
+    → ◌≡◌ {A = Result T (AnswerEnd F)} (Err (Serve (end_of_step e))) (Err (Serve ReadFault)) → A
 step_unread step.DiskFault is = differ is refl
 step_unread (step.Damaged page) is = differ is refl
 step_unread step.NoMemory is = differ is refl
 
-pub step_unsent : {T F A : Type 0} (e : ServiceError) → ◌≡◌ {A = Result T (AnswerEnd F)} (Err (Serve (end_of_step e))) (Err (Serve SendFault)) → A
+pub step_unsent : {T F A : Type 0} (e : ServiceError)
+    → ◌≡◌ {A = Result T (AnswerEnd F)} (Err (Serve (end_of_step e))) (Err (Serve SendFault)) → A
 step_unsent step.DiskFault is = differ is refl
 step_unsent (step.Damaged page) is = differ is refl
 step_unsent step.NoMemory is = differ is refl
 
-pub step_short : {T F A : Type 0} (e : ServiceError) → ◌≡◌ {A = Result T (AnswerEnd F)} (Err (Serve (end_of_step e))) (Err (Serve InputTooLong)) → A
+pub step_short : {T F A : Type 0} (e : ServiceError)
+    → ◌≡◌ {A = Result T (AnswerEnd F)} (Err (Serve (end_of_step e))) (Err (Serve InputTooLong)) → A
 step_short step.DiskFault is = differ is refl
 step_short (step.Damaged page) is = differ is refl
 step_short step.NoMemory is = differ is refl
 
-pub step_fault : {T F : Type 0} (e : ServiceError) → ◌≡◌ {A = Result T (AnswerEnd F)} (Err (Serve (end_of_step e))) (Err (Serve DiskFault)) → e ≡ step.DiskFault
+pub step_fault : {T F : Type 0} (e : ServiceError) → ◌≡◌ {A = Result T (AnswerEnd F)} (Err (Serve (end_of_step e))) (Err (Serve DiskFault))
+    → e ≡ step.DiskFault
 step_fault step.DiskFault is = refl
 step_fault (step.Damaged page) is = differ is refl
 step_fault step.NoMemory is = differ is refl
 
-pub step_bad : (told : Type 0) (count : ℕ) (image : Image) (e : ServiceError) → NamesBad told count image e → serving.EndsAtBad told count image (end_of_step e)
+pub step_bad : (told : Type 0) (count : ℕ) (image : Image) (e : ServiceError) → NamesBad told count image e
+    → serving.EndsAtBad told count image (end_of_step e)
 step_bad told count image step.DiskFault is = tt
 step_bad told count image (step.Damaged page) is = is
 step_bad told count image step.NoMemory is = tt
 
 -- unless a call of the disk failed, the pages may be called
-pub step_sound : (told : Type 0) (old new : View) (e : ServiceError) → old.fit → IsUnchangedFor e told old new → (e ≡ step.DiskFault → ⊥) → new.fit
+pub step_sound : (told : Type 0) (old new : View) (e : ServiceError) → old.fit → IsUnchangedFor e told old new → (e ≡ step.DiskFault → ⊥)
+    → new.fit
 step_sound told old new step.DiskFault fit is other = absurd (other refl)
 step_sound told old new (step.Damaged page) fit is other = is.fit fit
 step_sound told old new step.NoMemory fit is other = is.fit fit
 
 -- ---- the ends of a reply: no fault of the disk or of the input, and no page
 
-pub reply_bad : {F : Type 0} (told : Type 0) (count : ℕ) (image : Image) (end : AnswerEnd F) → IsReplyEnd end → EndsAtBad told count image end
+pub reply_bad : {F : Type 0} (told : Type 0) (count : ℕ) (image : Image) (end : AnswerEnd F) → IsReplyEnd end
+    → EndsAtBad told count image end
 reply_bad told count image (Serve ReadFault) is = tt
 reply_bad told count image (Serve SendFault) is = tt
 reply_bad told count image (Serve DiskFault) is = tt

@@ -4,7 +4,8 @@ use Rattle.series_book.specs.declared.edits.Edit.{Edit}
 use Rattle.chart_service.specs.EditGroups.{SpellsEdit, SpellEdits}
 
 -- behind one line more
-pub spells_more : (all : List (Option (List ℕ))) (edits : List Edit) (line : Option (List ℕ)) (edit : Edit) → SpellEdits all edits → SpellsEdit line edit → SpellEdits (all ++ line ∷ []) (edits ++ edit ∷ [])
+pub spells_more : (all : List (Option (List ℕ))) (edits : List Edit) (line : Option (List ℕ)) (edit : Edit) → SpellEdits all edits
+    → SpellsEdit line edit → SpellEdits (all ++ line ∷ []) (edits ++ edit ∷ [])
 spells_more [] [] line edit all one = (one, tt)
 spells_more [] (e ∷ es) line edit all one = absurd all
 spells_more (l ∷ ls) [] line edit all one = absurd all

@@ -17,14 +17,16 @@ use Rattle.chart_service.specs.declared.failure.ServiceError.{ServiceError}
 use Rattle.chart_service.specs.declared.failure.ServiceError.TheVariants.{DiskFault}
 use Rattle.chart_service.proofs.Together.{frames_length}
 
-pub group_kept : (error : StoreError) (end : ServiceError) (told : Type 0) (old new : View) → end ≡ group_end error → IsUnchangedFor error told old new → (end ≡ DiskFault → ⊥) → IsUnchanged told old new
+pub group_kept : (error : StoreError) (end : ServiceError) (told : Type 0) (old new : View) → end ≡ group_end error
+    → IsUnchangedFor error told old new → (end ≡ DiskFault → ⊥) → IsUnchanged told old new
 group_kept (store.Refused refusal) end told old new is kept other = kept
 group_kept store.NotAStore end told old new is kept other = absurd kept
 group_kept store.DiskFault end told old new is kept other = absurd (other is)
 group_kept (store.Damaged page) end told old new is kept other = kept
 group_kept store.NoMemory end told old new is kept other = kept
 
-pub group_risen : (error : StoreError) (end : ServiceError) (told : Type 0) (s : Superblock) (old new : View) → end ≡ group_end error → IsGroupCause error told s old new → end ≡ DiskFault → HasRisen old.faults new.faults
+pub group_risen : (error : StoreError) (end : ServiceError) (told : Type 0) (s : Superblock) (old new : View) → end ≡ group_end error
+    → IsGroupCause error told s old new → end ≡ DiskFault → HasRisen old.faults new.faults
 group_risen (store.Refused refusal) end told s old new is cause disk = absurd cause
 group_risen store.NotAStore end told s old new is cause disk = absurd cause
 group_risen store.DiskFault end told s old new is cause disk = cause
@@ -54,6 +56,13 @@ edit_steps told told' old new moves = record {
   writes = moves.writes;
 }
 
-pub frames_more : {T E : Type 0} (r : Result T E) (answers slice : List (Result Outcome Refusal)) (before now : List Frame) → slice ≡ answers → OnOk r (now ≡ before ++ frames_of (map answer_of slice)) → OnOk r (length now ≡ length before + length answers)
-frames_more (Ok t) answers slice before now same is = omega (arith, ap length is, length-append before (frames_of (map answer_of slice)), frames_length slice, ap length same)
+pub frames_more : {T E : Type 0} (r : Result T E) (answers slice : List (Result Outcome Refusal)) (before now : List Frame)
+    → slice ≡ answers → OnOk r (now ≡ before ++ frames_of (map answer_of slice)) → OnOk r (length now ≡ length before + length answers)
+frames_more (Ok t) answers slice before now same is = omega (
+  arith,
+  ap length is,
+  length-append before (frames_of (map answer_of slice)),
+  frames_length slice,
+  ap length same,
+)
 frames_more (Err e) answers slice before now same is = tt

@@ -1,5 +1,6 @@
 -- The last views of the sessions go on to be of series that are there.
-use Rattle.std.proofs.Common.{◌≡◌, ℕ, suc, ◌≤◌, subst, sym, true, false, ◌==◌, if◌then◌else◌, List, [], ◌∷◌, length, Option, None, Some, Result, Ok, Err, arith}
+use Rattle.std.proofs.Common.{◌≡◌, ℕ, suc, ◌≤◌, subst, sym, true, false, ◌==◌, if◌then◌else◌, List, [], ◌∷◌, length, Option, None, Some}
+use Rattle.std.proofs.Common.{Result, Ok, Err, arith}
 use Rattle.std.specs.Prelude.{All, OnOk, OnErr}
 use Rattle.std.proofs.lemmas.List.Elements.{All-cons}
 use Rattle.om3_coeff.specs.declared.key.Key.{Key}
@@ -36,20 +37,24 @@ views_closed count number [] all = all
 views_closed count number (s ∷ ss) all =
     elim (s.number == number) as (λ b. AreViewsIn count (if b then ss else s ∷ without number ss)) [
       | true ↦ tail_of (HasView count) s ss all
-      | false ↦ All-cons (HasView count) s (without number ss) (head_of (HasView count) s ss all) (views_closed count number ss (tail_of (HasView count) s ss all))
+      | false ↦ All-cons (HasView count) s (without number ss) (head_of (HasView count) s ss all)
+          (views_closed count number ss (tail_of (HasView count) s ss all))
     ]
 
 -- behind an answered view
-pub views_viewed : (count : ℕ) (number : ℕ) (spec : ViewSpec) (needed : Option (List (Key × Coef))) (ss : List Session) → IsViewIn count spec → AreViewsIn count ss → AreViewsIn count (viewed number spec needed ss)
+pub views_viewed : (count : ℕ) (number : ℕ) (spec : ViewSpec) (needed : Option (List (Key × Coef))) (ss : List Session)
+    → IsViewIn count spec → AreViewsIn count ss → AreViewsIn count (viewed number spec needed ss)
 views_viewed count number spec needed [] view all = all
 views_viewed count number spec needed (s ∷ ss) view all =
     elim (s.number == number) as (λ b. AreViewsIn count (if b then after_view spec needed s ∷ ss else s ∷ viewed number spec needed ss)) [
       | true ↦ All-cons (HasView count) (after_view spec needed s) ss view (tail_of (HasView count) s ss all)
-      | false ↦ All-cons (HasView count) s (viewed number spec needed ss) (head_of (HasView count) s ss all) (views_viewed count number spec needed ss view (tail_of (HasView count) s ss all))
+      | false ↦ All-cons (HasView count) s (viewed number spec needed ss) (head_of (HasView count) s ss all)
+          (views_viewed count number spec needed ss view (tail_of (HasView count) s ss all))
     ]
 
 -- a session's last view
-pub view_of_session : (count : ℕ) (number : ℕ) (ss : List Session) (s : Session) → session_of number ss ≡ Some s → AreViewsIn count ss → HasViewIn count s.last
+pub view_of_session : (count : ℕ) (number : ℕ) (ss : List Session) (s : Session) → session_of number ss ≡ Some s → AreViewsIn count ss
+    → HasViewIn count s.last
 view_of_session count number [] s is all = cc
 view_of_session count number (x ∷ ss) s is all =
     (elim (x.number == number) as (λ b. (if b then Some x else session_of number ss) ≡ Some s → HasViewIn count s.last) [
@@ -67,17 +72,27 @@ views_of : (count : ℕ) (book : List Series) (ss : List Session) → count ≡ 
 views_of count book ss same all = λ k d below. of_book count book _ same (all k d below)
 
 -- a state is sound
-pub state_sound : (count : ℕ) (book : List Series) (total : ℕ) (ss : List Session) → IsBook book → count ≡ length book → AreSessions ss → AreViewsIn count ss → IsSound (state_of book total ss)
-state_sound count book total ss is same sessions views = record { book = is; sessions = sessions; views = views_of count book ss same views }
+pub state_sound : (count : ℕ) (book : List Series) (total : ℕ) (ss : List Session) → IsBook book → count ≡ length book → AreSessions ss
+    → AreViewsIn count ss → IsSound (state_of book total ss)
+state_sound count book total ss is same sessions views = record {
+  book = is;
+  sessions = sessions;
+  views = views_of count book ss same views;
+}
 
 -- ---- behind calls whose answers are not known yet
 
 -- a closing
-pub views_after_close : {T E : Type 0} (r : Result T E) (count number : ℕ) (old new : List Session) → OnOk r (new ≡ without number old) → OnErr r (new ≡ old) → AreViewsIn count old → AreViewsIn count new
+pub views_after_close : {T E : Type 0} (r : Result T E) (count number : ℕ) (old new : List Session) → OnOk r (new ≡ without number old)
+    → OnErr r (new ≡ old) → AreViewsIn count old → AreViewsIn count new
 views_after_close (Ok t) count number old new closed same all = subst (AreViewsIn count) (sym closed) (views_closed count number old all)
 views_after_close (Err e) count number old new closed same all = subst (AreViewsIn count) (sym same) all
 
 -- an answered view, or no memory for it
-pub views_after_view : {T E : Type 0} (r : Result T E) (count number : ℕ) (spec : ViewSpec) (needed : Option (List (Key × Coef))) (old new : List Session) → OnOk r (new ≡ viewed number spec needed old) → OnErr r (new ≡ without number old) → IsViewIn count spec → AreViewsIn count old → AreViewsIn count new
-views_after_view (Ok t) count number spec needed old new viewed_so closed view all = subst (AreViewsIn count) (sym viewed_so) (views_viewed count number spec needed old view all)
-views_after_view (Err e) count number spec needed old new viewed_so closed view all = subst (AreViewsIn count) (sym closed) (views_closed count number old all)
+pub views_after_view : {T E : Type 0} (r : Result T E) (count number : ℕ) (spec : ViewSpec) (needed : Option (List (Key × Coef)))
+    (old new : List Session) → OnOk r (new ≡ viewed number spec needed old) → OnErr r (new ≡ without number old) → IsViewIn count spec
+    → AreViewsIn count old → AreViewsIn count new
+views_after_view (Ok t) count number spec needed old new viewed_so closed view all = subst (AreViewsIn count) (sym viewed_so)
+    (views_viewed count number spec needed old view all)
+views_after_view (Err e) count number spec needed old new viewed_so closed view all = subst (AreViewsIn count) (sym closed)
+    (views_closed count number old all)

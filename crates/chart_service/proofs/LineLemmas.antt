@@ -13,8 +13,19 @@ use Rattle.chart_service.specs.Replies.{refused, RepliesToLine, Replied, line_te
 use Rattle.chart_service.specs.Stepping.{StandsAfter, state_of}
 
 -- a line that is too long is refused
-pub long_line : (line : List ℕ) (frame : Frame) (total : ℕ) (book : List Series) (sessions : List Session) (image : Image) → 8192 < length line → frame ≡ refused LineTooLong → Fits frame → IsSound (state_of book total sessions) → StandsForBook image total book → StandsAfter total image sessions (λ new. Replied (line_text line) frame (state_of book total sessions) new)
+pub long_line : (line : List ℕ) (frame : Frame) (total : ℕ) (book : List Series) (sessions : List Session) (image : Image)
+    → 8192 < length line → frame ≡ refused LineTooLong → Fits frame → IsSound (state_of book total sessions)
+    → StandsForBook image total book → StandsAfter total image sessions
+    (λ new. Replied (line_text line) frame (state_of book total sessions) new)
 long_line line frame total book sessions image long is fits sound stands =
     let old = state_of book total sessions in
     let B : Bool → Type 0 = λ b. RepliesToLine (if b then None else Some line) frame old old in
-    record { book = book; stands = stands; so = (subst B (sym (lt-ltb 8192 (length line) long)) (record { reply = is; state = refl }), fits, sound) }
+    record {
+      book = book;
+      stands = stands;
+      so = (
+        subst B (sym (lt-ltb 8192 (length line) long)) (record { reply = is; state = refl }),
+        fits,
+        sound,
+      );
+    }

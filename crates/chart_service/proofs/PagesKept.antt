@@ -20,7 +20,8 @@ disk_then old mid new first second = record {
 pub pages_none : (told : Type 0) (at under : View) → KeepsPages told told at at under under
 pages_none told at under = record { disk = kept_none at; told = λ is. is; was_told = λ is. is; goes_on = goes_none under }
 
-pub pages_then : (told between told' : Type 0) (old mid new under under' under'' : View) → KeepsPages told between old mid under under' → KeepsPages between told' mid new under' under'' → KeepsPages told told' old new under under''
+pub pages_then : (told between told' : Type 0) (old mid new under under' under'' : View) → KeepsPages told between old mid under under'
+    → KeepsPages between told' mid new under' under'' → KeepsPages told told' old new under under''
 pages_then told between told' old mid new under under' under'' first second = record {
   disk = disk_then old mid new first.disk second.disk;
   told = λ is. second.told (first.told is);

@@ -1,5 +1,6 @@
 -- How far the lines of an input are answered, whatever text stands for their frames.
-use Rattle.std.proofs.Common.{◌≡◌, ◌≤◌, ℕ, ◌+◌, ◌-◌, ◌^◌, ◌<◌, ◌⊎◌, List, [], ◌∷◌, ◌++◌, length, take, drop, Option, Some, None, IfSome, refl, ap, subst, inl, inr, sym, ◌∙◌, arith, append_assoc, length-append}
+use Rattle.std.proofs.Common.{◌≡◌, ◌≤◌, ℕ, ◌+◌, ◌-◌, ◌^◌, ◌<◌, ◌⊎◌, List, [], ◌∷◌, ◌++◌, length, take, drop, Option, Some, None, IfSome}
+use Rattle.std.proofs.Common.{refl, ap, subst, inl, inr, sym, ◌∙◌, arith, append_assoc, length-append}
 use Rattle.std.specs.List.{filter}
 use Rattle.std.proofs.lemmas.List.{take-append-drop, append-nil}
 use Rattle.block_disk.specs.Streams.{sent_after, left_after}
@@ -14,11 +15,13 @@ use Rattle.chart_frames.specs.declared.frame.Frame.{Frame}
 use Rattle.chart_service.specs.Answering.{Telling}
 use Rattle.chart_service.specs.State.{State}
 use Rattle.chart_service.specs.Telling.{replies_joined, told_none}
-use Rattle.chart_service.specs.Serving.{told, unless_empty, most_ahead, RepliesToAll, Answers, AnswersNext, SendsText, SendsFirst, SendsTaken, SendsWithin, SendsSome, KeepsBook}
+use Rattle.chart_service.specs.Serving.{told, unless_empty, most_ahead, RepliesToAll, Answers, AnswersNext, SendsText, SendsFirst}
+use Rattle.chart_service.specs.Serving.{SendsTaken, SendsWithin, SendsSome, KeepsBook}
 
 -- with these lines more and their frames the text is as much longer
 abbrev pub Grows : Telling → Telling → List (Option (List ℕ)) → List Frame → List ℕ → Type 0
-Grows T T' more answers reply = (lines : List (Option (List ℕ))) (frames : List Frame) (text : List ℕ) → T lines frames text → T' (lines ++ more) (frames ++ answers) (text ++ reply)
+Grows T T' more answers reply = (lines : List (Option (List ℕ))) (frames : List Frame) (text : List ℕ) → T lines frames text
+    → T' (lines ++ more) (frames ++ answers) (text ++ reply)
 
 -- some first lines of what is left, and what stands behind them
 pub record PassedLines (input front rest : List ℕ) (bytes : Option (List ℕ)) (given : ℕ) (all : List (Option (List ℕ))) : Type 0 where
@@ -36,7 +39,8 @@ pub record PassedLines (input front rest : List ℕ) (bytes : Option (List ℕ))
 -- steps of the reader pass lines of which these say something
 abbrev pub PassesLines : Reading → Reading → Option (List ℕ) → Option (List ℕ) → List (Option (List ℕ)) → Type 0
 PassesLines r r' left left' all =
-    (input front rest : List ℕ) → unread r left ≡ Some rest → r.given ≡ length front → BeginsWith input front rest → PassedLines input front rest (unread r' left') r'.given all
+    (input front rest : List ℕ) → unread r left ≡ Some rest → r.given ≡ length front → BeginsWith input front rest
+    → PassedLines input front rest (unread r' left') r'.given all
 
 nothing_behind : (front piece : List ℕ) → front ++ piece ≡ [] → piece ≡ []
 nothing_behind [] piece none = none
@@ -62,7 +66,8 @@ pub record SplitLines (input front : List ℕ) (first later : List (Option (List
   pub told_next : told next ≡ later
   pub early_next : length (front ++ piece) + length next ≤ 2 ^ 32
 
-pub split_lines : (input front rest : List ℕ) (bytes : Option (List ℕ)) (given : ℕ) (all first later : List (Option (List ℕ))) → all ≡ first ++ later → PassedLines input front rest bytes given all → SplitLines input front first later
+pub split_lines : (input front rest : List ℕ) (bytes : Option (List ℕ)) (given : ℕ) (all first later : List (Option (List ℕ)))
+    → all ≡ first ++ later → PassedLines input front rest bytes given all → SplitLines input front first later
 split_lines input front rest bytes given all first later is q =
     let f = told_split (length q.piece) q.piece first later (omega arith) (q.told_piece ∙ is) in
     let parts : q.piece ≡ f.front ++ f.rest = f.begins.split in
@@ -96,7 +101,9 @@ split_lines input front rest bytes given all first later is q =
     }
 
 -- more lines are answered, or passed over
-pub answers_more : (T T' : Telling) (front piece text reply : List ℕ) (old state new : State) (all : List (Option (List ℕ))) (answers : List Frame) → told (front ++ piece) ≡ told front ++ all → Answers T front text old state → RepliesToAll state all answers new → Grows T T' all answers reply → Answers T' (front ++ piece) (text ++ reply) old new
+pub answers_more : (T T' : Telling) (front piece text reply : List ℕ) (old state new : State) (all : List (Option (List ℕ)))
+    (answers : List Frame) → told (front ++ piece) ≡ told front ++ all → Answers T front text old state → RepliesToAll state all answers new
+    → Grows T T' all answers reply → Answers T' (front ++ piece) (text ++ reply) old new
 answers_more T T' front piece text reply old state new all answers told_is a next grows =
     let P : List (Option (List ℕ)) → Type 0 = λ l. RepliesToAll old l (a.frames ++ answers) new in
     let Q : List (Option (List ℕ)) → Type 0 = λ l. T' l (a.frames ++ answers) (text ++ reply) in
@@ -107,7 +114,8 @@ answers_more T T' front piece text reply old state new all answers told_is a nex
     }
 
 -- how far the lines are answered
-pub record Progress (T : Telling) (input : List ℕ) (bytes : Option (List ℕ)) (given : ℕ) (old state : State) (before now : Option (List ℕ)) : Type 0 where
+pub record Progress (T : Telling) (input : List ℕ) (bytes : Option (List ℕ)) (given : ℕ) (old state : State)
+    (before now : Option (List ℕ)) : Type 0 where
   pub rest : List ℕ
   pub told_rest : bytes ≡ Some rest
   pub front : List ℕ
@@ -124,7 +132,8 @@ no_answers T old none =
     let P : List (Option (List ℕ)) → Type 0 = λ l. T (filter says l) [] [] in
     record { frames = []; replied = told_none old; texts = subst P (sym lines_none) none }
 
-start_at : (T : Telling) (input : List ℕ) (old : State) (before : Option (List ℕ)) → T [] [] [] → Progress T input (Some ([] ++ input)) 0 old old before before
+start_at : (T : Telling) (input : List ℕ) (old : State) (before : Option (List ℕ)) → T [] [] []
+    → Progress T input (Some ([] ++ input)) 0 old old before before
 start_at T input old before none = record {
   rest = input;
   told_rest = refl;
@@ -137,12 +146,14 @@ start_at T input old before none = record {
   sent = sent_none before;
 }
 
-pub start_told : (T : Telling) (o before : Option (List ℕ)) (old : State) → T [] [] [] → IfSome o (λ input. Progress T input (unread unread_input o) 0 old old before before)
+pub start_told : (T : Telling) (o before : Option (List ℕ)) (old : State) → T [] [] []
+    → IfSome o (λ input. Progress T input (unread unread_input o) 0 old old before before)
 start_told T None before old none = tt
 start_told T (Some input) before old none = start_at T input old before none
 
 -- before the first line
-pub starts : (T : Telling) (o before : Option (List ℕ)) (r : Reading) (old : State) → T [] [] [] → r ≡ unread_input → IfSome o (λ input. Progress T input (unread r o) r.given old old before before)
+pub starts : (T : Telling) (o before : Option (List ℕ)) (r : Reading) (old : State) → T [] [] [] → r ≡ unread_input
+    → IfSome o (λ input. Progress T input (unread r o) r.given old old before before)
 starts T o before r old none fresh =
     let P : Reading → Type 0 = λ x. IfSome o (λ input. Progress T input (unread x o) x.given old old before before) in
     subst P (sym fresh) (start_told T o before old none)
@@ -159,7 +170,9 @@ none_or_some [] = inl refl
 none_or_some (line ∷ lines) = inr (omega arith)
 
 -- what some first of the next lines do, done ahead
-pub next_at : (given : ℕ) (rest piece later : List ℕ) (front behind : List (Option (List ℕ))) (answers : List Frame) (state new : State) → BeginsWith rest piece later → told piece ≡ front ++ behind → given + length piece ≤ 2 ^ 32 → length front ≤ most_ahead → 1 ≤ length front → RepliesToAll state front answers new
+pub next_at : (given : ℕ) (rest piece later : List ℕ) (front behind : List (Option (List ℕ))) (answers : List Frame) (state new : State)
+    → BeginsWith rest piece later → told piece ≡ front ++ behind → given + length piece ≤ 2 ^ 32 → length front ≤ most_ahead
+    → 1 ≤ length front → RepliesToAll state front answers new
     → (next : AnswersNext given rest state new) × (told next.front ≡ front) × (next.frames ≡ answers)
 next_at given rest piece later front behind answers state new begins told_is early few some next =
     let f = told_split (length piece) piece front behind (omega arith) told_is in
@@ -188,7 +201,10 @@ next_at given rest piece later front behind answers state new begins told_is ear
     )
 
 -- lines of the input are given, which do this from state to new
-module _ (T T' : Telling) (input : List ℕ) (r r' : Reading) (left left' : Option (List ℕ)) (old state new : State) (before now later : Option (List ℕ)) (all : List (Option (List ℕ))) (answers : List Frame) (reply : List ℕ) (given : PassesLines r r' left left' all) (next : RepliesToAll state all answers new) (grows : Grows T T' all answers reply) (p : Progress T input (unread r left) r.given old state before now) where
+module _ (T T' : Telling) (input : List ℕ) (r r' : Reading) (left left' : Option (List ℕ)) (old state new : State)
+    (before now later : Option (List ℕ)) (all : List (Option (List ℕ))) (answers : List Frame) (reply : List ℕ)
+    (given : PassesLines r r' left left' all) (next : RepliesToAll state all answers new) (grows : Grows T T' all answers reply)
+    (p : Progress T input (unread r left) r.given old state before now) where
   -- its text was sent
   pub answered_at : later ≡ sent_after reply now → Progress T' input (unread r' left') r'.given old new before later
   answered_at sends =
@@ -207,7 +223,8 @@ module _ (T T' : Telling) (input : List ℕ) (r r' : Reading) (left left' : Opti
 
 module _ (T : Telling) (input : List ℕ) (old state : State) (before now : Option (List ℕ)) where
   -- where no line is left, all of the input is answered
-  pub end_at : (bytes : Option (List ℕ)) (given : ℕ) → IfSome (told_lines bytes) (λ all. all ≡ []) → Progress T input bytes given old state before now → SendsText T input old state before now
+  pub end_at : (bytes : Option (List ℕ)) (given : ℕ) → IfSome (told_lines bytes) (λ all. all ≡ [])
+      → Progress T input bytes given old state before now → SendsText T input old state before now
   end_at bytes given none p =
       let P : Option (List ℕ) → Type 0 = λ b. IfSome (told_lines b) (λ all. all ≡ []) in
       let rest_none : p.rest ≡ [] = no_rest p.rest (subst P p.told_rest none) in
@@ -215,11 +232,20 @@ module _ (T : Telling) (input : List ℕ) (old state : State) (before now : Opti
       let Q : List ℕ → Type 0 = λ i. Answers T i p.text old state in
       record { text = p.text; answers = subst Q all p.answers; sent = p.sent }
 
-  abbrev pub first_at : (bytes : Option (List ℕ)) (given : ℕ) → (p : Progress T input bytes given old state before now) → SendsFirst T input p.rest old state before now
-  first_at bytes given p = record { front = p.front; begins = p.begins; early = omega (arith, p.early, p.counted); text = p.text; answers = p.answers; sent = p.sent }
+  abbrev pub first_at : (bytes : Option (List ℕ)) (given : ℕ) → (p : Progress T input bytes given old state before now)
+      → SendsFirst T input p.rest old state before now
+  first_at bytes given p = record {
+    front = p.front;
+    begins = p.begins;
+    early = omega (arith, p.early, p.counted);
+    text = p.text;
+    answers = p.answers;
+    sent = p.sent;
+  }
 
   -- at a take that failed
-  pub taken_at : (bytes left : Option (List ℕ)) (given n : ℕ) → IsWhole (take given input) → NoLineIn n bytes → left ≡ left_after n bytes → Progress T input bytes given old state before now → IfSome left (λ l. SendsTaken T input l old state before now)
+  pub taken_at : (bytes left : Option (List ℕ)) (given n : ℕ) → IsWhole (take given input) → NoLineIn n bytes → left ≡ left_after n bytes
+      → Progress T input bytes given old state before now → IfSome left (λ l. SendsTaken T input l old state before now)
   taken_at bytes left given n whole none after p =
       let P : Option (List ℕ) → Type 0 = NoLineIn n in
       let Q : Option (List ℕ) → Type 0 = λ l. IfSome l (λ k. SendsTaken T input k old state before now) in
@@ -234,7 +260,9 @@ module _ (T : Telling) (input : List ℕ) (old state : State) (before now : Opti
       })
 
   -- at a byte past 2^32
-  pub within_at : (r r' : Reading) (left left' : Option (List ℕ)) → r.given ≤ 2 ^ 32 → NoLineIn (2 ^ 32 - r.given) (unread r left) → 2 ^ 32 < r'.taken → r.taken ≡ r.given + length r.pending → input_length r'.taken left' ≡ input_length r.taken left → Progress T input (unread r left) r.given old state before now → SendsWithin T input old state before now
+  pub within_at : (r r' : Reading) (left left' : Option (List ℕ)) → r.given ≤ 2 ^ 32 → NoLineIn (2 ^ 32 - r.given) (unread r left)
+      → 2 ^ 32 < r'.taken → r.taken ≡ r.given + length r.pending → input_length r'.taken left' ≡ input_length r.taken left
+      → Progress T input (unread r left) r.given old state before now → SendsWithin T input old state before now
   within_at r r' None left' few none past counted total p = let told_rest = p.told_rest in cc
   within_at r r' (Some l) None few none past counted total p = cc
   within_at r r' (Some l) (Some l') few none past counted total p =
@@ -245,12 +273,30 @@ module _ (T : Telling) (input : List ℕ) (old state : State) (before now : Opti
       let here : r.pending ++ l ≡ p.rest = cc in
       record {
         rest = p.rest;
-        first = record { front = p.front; begins = p.begins; early = omega (arith, p.early, p.counted); text = p.text; answers = p.answers; sent = p.sent };
+        first = record {
+          front = p.front;
+          begins = p.begins;
+          early = omega (arith, p.early, p.counted);
+          text = p.text;
+          answers = p.answers;
+          sent = p.sent;
+        };
         few = omega (arith, few, p.counted);
         unended = subst N p.counted (subst P p.told_rest none);
-        past = omega (arith, past, sum, counted, ap length here, length-append r.pending l, ap length p.begins.split, length-append p.front p.rest, p.counted);
+        past = omega (
+          arith,
+          past,
+          sum,
+          counted,
+          ap length here,
+          length-append r.pending l,
+          ap length p.begins.split,
+          length-append p.front p.rest,
+          p.counted,
+        );
       }
 
   -- want of memory, where nothing more was sent: the line isn't answered
-  pub kept_at : (new : State) (bytes : Option (List ℕ)) (given : ℕ) → KeepsBook state new → Progress T input bytes given old state before now → SendsSome T input old new before now
+  pub kept_at : (new : State) (bytes : Option (List ℕ)) (given : ℕ) → KeepsBook state new
+      → Progress T input bytes given old state before now → SendsSome T input old new before now
   kept_at new bytes given kept p = record { rest = p.rest; between = state; first = first_at bytes given p; state = inl kept }

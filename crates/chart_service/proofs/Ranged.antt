@@ -19,7 +19,8 @@ use Rattle.chart_service.specs.Planning.{RefusesView, CountsOver}
 use Rattle.chart_service.proofs.Lasts.{somebody}
 
 -- the nodes gave no range
-pub range_refused : (number : ℕ) (sessions : List Session) (old new : NodesView) (e : NodeError) → IsTrue (is_open number sessions) → HasCause old new e
+pub range_refused : (number : ℕ) (sessions : List Session) (old new : NodesView) (e : NodeError) → IsTrue (is_open number sessions)
+    → HasCause old new e
     → RefusesView (session_of number sessions) old new (Node e)
 range_refused number sessions old new e there cause =
     let found : (s : Session) × (session_of number sessions ≡ Some s) = somebody number sessions there in
@@ -27,7 +28,8 @@ range_refused number sessions old new e there cause =
     subst P (sym found.1) cause
 
 -- there was no plan
-pub plan_refused : (session : Option Session) (old mid new : NodesView) (axis : Axis) (grid : Grid) (lo hi : ℤ) (e : PlanError) → StaysSame old mid → mid.faults ≡ old.faults
+pub plan_refused : (session : Option Session) (old mid new : NodesView) (axis : Axis) (grid : Grid) (lo hi : ℤ) (e : PlanError)
+    → StaysSame old mid → mid.faults ≡ old.faults
     → RefusesPlan session mid new axis grid lo hi e → RefusesView session old new e
 plan_refused None old mid new axis grid lo hi e same quiet refuses = absurd refuses
 plan_refused (Some s) old mid new axis grid lo hi (TooLarge needed cache) same quiet refuses = refuses
@@ -35,7 +37,8 @@ plan_refused (Some s) old mid new axis grid lo hi (Node e) same quiet refuses = 
 plan_refused (Some s) old mid new axis grid lo hi NoMemory same quiet refuses = tt
 
 -- it was too large
-pub plan_counts : (list : List (Option ℤ)) (axis : Axis) (spec : ViewSpec) (range : ValueRange) (e : PlanError) → ShowsRange spec.range (values_of (kept spec.grid axis list)) range
+pub plan_counts : (list : List (Option ℤ)) (axis : Axis) (spec : ViewSpec) (range : ValueRange) (e : PlanError)
+    → ShowsRange spec.range (values_of (kept spec.grid axis list)) range
     → CountsNeeded list axis spec.grid range.lo range.hi e → CountsOver list axis spec e
 plan_counts list axis spec range (TooLarge needed cache) shown counts = (range, shown, counts)
 plan_counts list axis spec range (Node e) shown counts = tt
@@ -47,4 +50,5 @@ range_at P a b lo hi low high h = subst (λ (x : ℤ). P x hi) low (subst (λ (x
 
 -- numbers that were read back from 64 bits are in the same order
 pub order_back : (lo hi : ℤ) → FitsSigned w64 lo → FitsSigned w64 hi → lo ≤ℤ hi → to_z w64 (of_z w64 lo) ≤ℤ to_z w64 (of_z w64 hi)
-order_back lo hi low high order = range_at (λ a b. a ≤ℤ b) lo hi (to_z w64 (of_z w64 lo)) (to_z w64 (of_z w64 hi)) (sym (to_z-of_z w64 lo low)) (sym (to_z-of_z w64 hi high)) order
+order_back lo hi low high order = range_at (λ a b. a ≤ℤ b) lo hi (to_z w64 (of_z w64 lo)) (to_z w64 (of_z w64 hi))
+    (sym (to_z-of_z w64 lo low)) (sym (to_z-of_z w64 hi high)) order

@@ -36,5 +36,6 @@ reads_none (EditRequest edit) book sessions n = omega arith
 reads_none (Open number cache) book sessions n = refl
 reads_none (ViewRequest number name w h t0 t1 word text) book sessions n = reads_text text w t0 t1 (series_at book (id_of name book)) n
 reads_none (Zoom number t0 t1) book sessions n = reads_last book n (λ (last : ViewSpec). (t0, t1)) (last_of (session_of number sessions))
-reads_none (Pan number by) book sessions n = reads_last book n (λ (last : ViewSpec). (last.grid.t0 +ℤ by, last.grid.t1 +ℤ by)) (last_of (session_of number sessions))
+reads_none (Pan number by) book sessions n = reads_last book n (λ (last : ViewSpec). (last.grid.t0 +ℤ by, last.grid.t1 +ℤ by))
+    (last_of (session_of number sessions))
 reads_none (Close number) book sessions n = refl

@@ -1,5 +1,6 @@
 -- What replies leave of the sessions, and of the room of their clients.
-use Rattle.std.proofs.Common.{◌≡◌, ◌∙◌, ℕ, ℤ, ◌+◌, ◌*◌, ◌≤◌, Bool, true, false, ◌==◌, if◌then◌else◌, List, [], ◌∷◌, ◌++◌, length, Option, None, Some, Result, Ok, Err, refl, sym, ap, subst, arith}
+use Rattle.std.proofs.Common.{◌≡◌, ◌∙◌, ℕ, ℤ, ◌+◌, ◌*◌, ◌≤◌, Bool, true, false, ◌==◌, if◌then◌else◌, List, [], ◌∷◌, ◌++◌, length, Option}
+use Rattle.std.proofs.Common.{None, Some, Result, Ok, Err, refl, sym, ap, subst, arith}
 use Rattle.std.specs.Prelude.{IfErr, OnOk}
 use Rattle.std.proofs.Math.Nat.{mul-le-mul_left}
 use Rattle.std.proofs.lemmas.Bool.{eqb-true, eqb-false, ne_eqb}
@@ -25,7 +26,8 @@ use Rattle.zoom_session.specs.declared.session.Session.{Session}
 use Rattle.zoom_session.specs.declared.view_spec.ViewSpec.{ViewSpec}
 use Rattle.chart_service.specs.Planning.{IsLast, IsLastOf, IsMoved, RefusesView}
 use Rattle.chart_service.specs.Replies.{line_text}
-use Rattle.chart_service.specs.Rooms.{FitsIn, HasRoom, IsRoomFor, IsShortFor, KeepRooms, LeavesLine, LeavesOpen, LeavesRead, OthersStay, most_coefs}
+use Rattle.chart_service.specs.Rooms.{FitsIn, HasRoom, IsRoomFor, IsShortFor, KeepRooms, LeavesLine, LeavesOpen, LeavesRead, OthersStay}
+use Rattle.chart_service.specs.Rooms.{most_coefs}
 use Rattle.chart_service.specs.ViewingLaws.{no_window}
 use Rattle.chart_service.specs.declared.shown.Planned.{Planned}
 use Rattle.chart_service.proofs.Others.{without_others}
@@ -39,7 +41,8 @@ one_some x y e = cc
 
 -- ---- what is too large
 
-short_one : (session : Option Session) (old new : NodesView) (w slots : ℕ) (e : PlanError) → RefusesView session old new e → NeedsAtMost (most_needed w slots) e → IsShortFor session w e
+short_one : (session : Option Session) (old new : NodesView) (w slots : ℕ) (e : PlanError) → RefusesView session old new e
+    → NeedsAtMost (most_needed w slots) e → IsShortFor session w e
 short_one None old new w slots e refuses few = absurd refuses
 short_one (Some s) old new w slots (TooLarge needed cache) refuses few =
     let most : (3 * w + 1) * height slots ≤ (3 * w + 1) * 35 = mul-le-mul_left (3 * w + 1) (height_few slots) in
@@ -47,13 +50,15 @@ short_one (Some s) old new w slots (TooLarge needed cache) refuses few =
 short_one (Some s) old new w slots (Node error) refuses few = tt
 short_one (Some s) old new w slots NoMemory refuses few = tt
 
-pub short_for : (session : Option Session) (old new : NodesView) (w slots : ℕ) (r : Result Planned PlanError) → IfErr r (RefusesView session old new) → IfErr r (NeedsAtMost (most_needed w slots))
+pub short_for : (session : Option Session) (old new : NodesView) (w slots : ℕ) (r : Result Planned PlanError)
+    → IfErr r (RefusesView session old new) → IfErr r (NeedsAtMost (most_needed w slots))
     → IfErr r (IsShortFor session w)
 short_for session old new w slots (Ok planned) refuses few = tt
 short_for session old new w slots (Err e) refuses few = short_one session old new w slots e refuses few
 
 -- a view for which there is room isn't
-pub never_large : (number : ℕ) (spec : ViewSpec) (sessions : List Session) (needed cache : ℕ) (error : PlanError) → spec.filter ≡ None → FitsIn number spec sessions → error ≡ TooLarge needed cache
+pub never_large : (number : ℕ) (spec : ViewSpec) (sessions : List Session) (needed cache : ℕ) (error : PlanError) → spec.filter ≡ None
+    → FitsIn number spec sessions → error ≡ TooLarge needed cache
     → IsShortFor (session_of number sessions) spec.grid.w error → ⊥
 never_large number spec sessions needed cache error unfiltered fits is short =
     let S : PlanError → Type 0 = λ e. IsShortFor (session_of number sessions) spec.grid.w e in
@@ -62,15 +67,20 @@ never_large number spec sessions needed cache error unfiltered fits is short =
 
 -- ---- an answered view
 
-own_at : (n : ℕ) (spec : ViewSpec) (needed : Needed) (x : Session) (xs : List Session) (s : Session) → (session_of n xs ≡ Some s → session_of n (viewed n spec needed xs) ≡ Some (after_view spec needed s)) → (here : Bool) → (x.number == n) ≡ here
-    → session_of n (x ∷ xs) ≡ Some s → session_of n (if here then after_view spec needed x ∷ xs else x ∷ viewed n spec needed xs) ≡ Some (after_view spec needed s)
+own_at : (n : ℕ) (spec : ViewSpec) (needed : Needed) (x : Session) (xs : List Session) (s : Session)
+    → (session_of n xs ≡ Some s → session_of n (viewed n spec needed xs) ≡ Some (after_view spec needed s)) → (here : Bool)
+    → (x.number == n) ≡ here
+    → session_of n (x ∷ xs) ≡ Some s → session_of n (if here then after_view spec needed x ∷ xs
+    else x ∷ viewed n spec needed xs) ≡ Some (after_view spec needed s)
 own_at n spec needed x xs s later true e is =
     let same : x ≡ s = one_some x s (sym (ap (λ b. if b then Some x else session_of n xs) e) ∙ is) in
     ap (λ b. if b then Some (after_view spec needed x) else session_of n xs) e ∙ ap (λ y. Some (after_view spec needed y)) same
 own_at n spec needed x xs s later false e is =
-    ap (λ b. if b then Some x else session_of n (viewed n spec needed xs)) e ∙ later (sym (ap (λ b. if b then Some x else session_of n xs) e) ∙ is)
+    ap (λ b. if b then Some x else session_of n (viewed n spec needed xs)) e
+    ∙ later (sym (ap (λ b. if b then Some x else session_of n xs) e) ∙ is)
 
-pub own_viewed : (n : ℕ) (spec : ViewSpec) (needed : Needed) (ss : List Session) (s : Session) → session_of n ss ≡ Some s → session_of n (viewed n spec needed ss) ≡ Some (after_view spec needed s)
+pub own_viewed : (n : ℕ) (spec : ViewSpec) (needed : Needed) (ss : List Session) (s : Session) → session_of n ss ≡ Some s
+    → session_of n (viewed n spec needed ss) ≡ Some (after_view spec needed s)
 own_viewed n spec needed [] s is = cc
 own_viewed n spec needed (x ∷ xs) s is = own_at n spec needed x xs s (own_viewed n spec needed xs s) (x.number == n) refl is
 
@@ -78,11 +88,13 @@ same_capacity : (series : ℕ) (needed : Needed) (cache : Cache) → (list_after
 same_capacity series None cache = refl
 same_capacity series (Some needed) cache = refl
 
-pub room_viewed : (number : ℕ) (spec : ViewSpec) (needed : Needed) (old mid new : List Session) → new ≡ viewed number spec needed mid → mid ≡ old → FitsIn number spec old → HasRoom old number → HasRoom new number
+pub room_viewed : (number : ℕ) (spec : ViewSpec) (needed : Needed) (old mid new : List Session) → new ≡ viewed number spec needed mid
+    → mid ≡ old → FitsIn number spec old → HasRoom old number → HasRoom new number
 room_viewed number spec needed old mid new done same fits has =
     let V : List Session → Type 0 = λ ss. new ≡ viewed number spec needed ss in
     let is : new ≡ viewed number spec needed old = subst V same done in
-    let there : session_of number new ≡ Some (after_view spec needed has.session) = ap (λ ss. session_of number ss) is ∙ own_viewed number spec needed old has.session has.there in
+    let there : session_of number new ≡ Some (after_view spec needed has.session) = ap (λ ss. session_of number ss) is
+    ∙ own_viewed number spec needed old has.session has.there in
     record {
       session = after_view spec needed has.session;
       there = there;
@@ -96,7 +108,8 @@ room_same number old new same has = let R : List Session → Type 0 = λ ss. Has
 
 -- ---- a view over another window
 
-pub fits_moved : (number : ℕ) (last : ViewSpec) (grid : Grid) (t0 t1 : ℤ) (sessions : List Session) → IsMoved last.grid t0 t1 (Ok grid) → FitsIn number last sessions
+pub fits_moved : (number : ℕ) (last : ViewSpec) (grid : Grid) (t0 t1 : ℤ) (sessions : List Session) → IsMoved last.grid t0 t1 (Ok grid)
+    → FitsIn number last sessions
     → FitsIn number (record { series = last.series; grid = grid; range = last.range; filter = last.filter }) sessions
 fits_moved number last grid t0 t1 sessions moved fits = λ session there none.
     let W : ℕ → Type 0 = λ w. most_coefs w ≤ session.cache.capacity in
@@ -107,7 +120,8 @@ never_bad last t0 t1 error moved window = no_window t0 t1 window moved
 
 -- ---- the last view of a session
 
-pub fits_last : (number : ℕ) (sessions : List Session) (last : ViewSpec) → IsLastOf (session_of number sessions) (Ok last) → HasRoom sessions number → FitsIn number last sessions
+pub fits_last : (number : ℕ) (sessions : List Session) (last : ViewSpec) → IsLastOf (session_of number sessions) (Ok last)
+    → HasRoom sessions number → FitsIn number last sessions
 fits_last number sessions last is has = λ session there.
     let L : Option Session → Type 0 = λ o. IsLastOf o (Ok last) in
     let V : Option ViewSpec → Type 0 = λ o. IsLast o (Ok last) in
@@ -117,7 +131,8 @@ fits_last number sessions last is has = λ session there.
     let R : ViewSpec → Type 0 = λ v. IsRoomFor v has.session.cache.capacity in
     subst S same (subst R (sym own) has.room)
 
-pub never_none : (number : ℕ) (sessions : List Session) (refusal : Refusal) → IsLastOf (session_of number sessions) (Err refusal) → HasRoom sessions number → ⊥
+pub never_none : (number : ℕ) (sessions : List Session) (refusal : Refusal) → IsLastOf (session_of number sessions) (Err refusal)
+    → HasRoom sessions number → ⊥
 never_none number sessions refusal is has =
     let L : Option Session → Type 0 = λ o. IsLastOf o (Err refusal) in
     let V : Option ViewSpec → Type 0 = λ o. IsLast o (Err refusal) in
@@ -125,16 +140,24 @@ never_none number sessions refusal is has =
 
 -- ---- all sessions
 
-rooms_at : (n number : ℕ) (old new : List Session) → OthersStay number old new → (HasRoom old number → HasRoom new number) → HasRoom old n → (test : Bool) → (n == number) ≡ test → HasRoom new n
+rooms_at : (n number : ℕ) (old new : List Session) → OthersStay number old new → (HasRoom old number → HasRoom new number) → HasRoom old n
+    → (test : Bool) → (n == number) ≡ test → HasRoom new n
 rooms_at n number old new others own has true is =
     let same : n ≡ number = eqb-true n number is in
     let O : ℕ → Type 0 = λ k. HasRoom old k in
     let N : ℕ → Type 0 = λ k. HasRoom new k in
     subst N (sym same) (own (subst O same has))
 rooms_at n number old new others own has false is =
-    record { session = has.session; there = others n (eqb-false n number is) ∙ has.there; view = has.view; last = has.last; room = has.room }
+    record {
+      session = has.session;
+      there = others n (eqb-false n number is) ∙ has.there;
+      view = has.view;
+      last = has.last;
+      room = has.room;
+    }
 
-pub keep_rooms : {T E : Type 0} (r : Result T E) (number : ℕ) (old new : List Session) → OthersStay number old new → (HasRoom old number → OnOk r (HasRoom new number)) → OnOk r (KeepRooms old new)
+pub keep_rooms : {T E : Type 0} (r : Result T E) (number : ℕ) (old new : List Session) → OthersStay number old new
+    → (HasRoom old number → OnOk r (HasRoom new number)) → OnOk r (KeepRooms old new)
 keep_rooms (Ok v) number old new others own = λ n has. rooms_at n number old new others own has (n == number) refl
 keep_rooms (Err e) number old new others own = tt
 
@@ -175,7 +198,8 @@ pub line_same : (line : Option (List ℕ)) (ss : List Session) → LeavesLine li
 line_same None ss = refl
 line_same (Some text) ss = read_same (read_line text) ss
 
-pub line_leaves : {T E : Type 0} (r : Result T E) (line : List ℕ) (request : Request) (old new : List Session) → length line ≤ 8192 → read_line line ≡ Ok request → OnOk r (LeavesOpen request old new)
+pub line_leaves : {T E : Type 0} (r : Result T E) (line : List ℕ) (request : Request) (old new : List Session) → length line ≤ 8192
+    → read_line line ≡ Ok request → OnOk r (LeavesOpen request old new)
     → OnOk r (LeavesLine (line_text line) old new)
 line_leaves r line request old new short reads leaves =
     let L : Option (List ℕ) → Type 0 = λ o. OnOk r (LeavesLine o old new) in

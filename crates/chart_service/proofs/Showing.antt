@@ -1,5 +1,6 @@
 -- The fields of an answered view are those that a frame may have.
-use Rattle.std.proofs.Common.{◌≡◌, ℕ, zero, suc, ℤ, ◌^◌, ◌<◌, ◌≤◌, List, [], ◌∷◌, get_or, Option, None, Some, refl, sym, subst, inl, inr, arith}
+use Rattle.std.proofs.Common.{◌≡◌, ℕ, zero, suc, ℤ, ◌^◌, ◌<◌, ◌≤◌, List, [], ◌∷◌, get_or, Option, None, Some, refl, sym, subst, inl, inr}
+use Rattle.std.proofs.Common.{arith}
 use Rattle.std.specs.Prelude.{AllPairs, IsSome, ◌-ℤ◌}
 use Rattle.std.proofs.lemmas.Int.{ints}
 use Rattle.std.proofs.lemmas.List.Kept.{AllPairs-cons}
@@ -64,7 +65,8 @@ ordered [] order = λ i j d less below. absurd (omega (arith, below))
 ordered (e ∷ es) order = AllPairs-cons Precedes e es (λ k d below. precedes e (get_or es k d) (order.0 k d below)) (ordered es order.1)
 
 -- the span of all slots, as a frame tells it
-pub stored_fits : (slots : ℕ) (root : Option Span) → (slots ≡ 0 → root ≡ None) → IsProperIfAny root → IsStored slots (has_of root) (least_of root) (greatest_of root)
+pub stored_fits : (slots : ℕ) (root : Option Span) → (slots ≡ 0 → root ≡ None) → IsProperIfAny root
+    → IsStored slots (has_of root) (least_of root) (greatest_of root)
 stored_fits slots None none proper = record {
   flag = omega arith;
   somewhere = λ h. absurd (omega (arith, h));
@@ -85,7 +87,9 @@ stored_fits slots (Some s) none proper = record {
     some_slots (suc n) s none = omega arith
 
 -- all fields of a view that is planned
-pub plan_fits : (number id : ℕ) (grid : Grid) (p : Planned) → IsGoodPlan p → 1 ≤ number → number < 2 ^ 32 → id < 512 → window.IsWindow grid.t0 grid.t1 → window.IsSide grid.w → window.IsSide grid.h → FitsView (planned_frame number id grid p.told p.plan.send)
+pub plan_fits : (number id : ℕ) (grid : Grid) (p : Planned) → IsGoodPlan p → 1 ≤ number → number < 2 ^ 32 → id < 512
+    → window.IsWindow grid.t0 grid.t1 → window.IsSide grid.w → window.IsSide grid.h
+    → FitsView (planned_frame number id grid p.told p.plan.send)
 plan_fits number id grid p good low high few shown wide tall = record {
   head = record {
     place = record {

@@ -1,5 +1,6 @@
 -- How often the lines of an input have synced so far.
-use Rattle.std.proofs.Common.{◌≡◌, ◌⊎◌, ◌≤◌, ◌<◌, ◌+◌, ◌*◌, ◌-◌, ◌/◌, ◌^◌, arith, ℕ, List, [], ◌∷◌, ◌++◌, length, zero, suc, take, drop, Option, None, Some, Result, Ok, Err, IfSome, refl, ap, sym, subst, inl, inr, ◌∙◌, length-append, append_assoc}
+use Rattle.std.proofs.Common.{◌≡◌, ◌⊎◌, ◌≤◌, ◌<◌, ◌+◌, ◌*◌, ◌-◌, ◌/◌, ◌^◌, arith, ℕ, List, [], ◌∷◌, ◌++◌, length, zero, suc, take, drop}
+use Rattle.std.proofs.Common.{Option, None, Some, Result, Ok, Err, IfSome, refl, ap, sym, subst, inl, inr, ◌∙◌, length-append, append_assoc}
 use Rattle.std.specs.Prelude.{OnOk}
 use Rattle.std.specs.List.{filter}
 use Rattle.std.proofs.Math.Nat.{div-mul-le_self, le-div_iff_mul-le}
@@ -40,7 +41,8 @@ no_text (b ∷ bs) none = absurd (omega (arith, none))
 
 pub edits_joined : (first later : List (Option (List ℕ))) → edits_of (first ++ later) ≡ edits_of first ++ edits_of later
 edits_joined [] later = refl
-edits_joined (line ∷ lines) later = ap (λ e. edit_of line ++ e) (edits_joined lines later) ∙ sym (append_assoc (edit_of line) (edits_of lines) (edits_of later))
+edits_joined (line ∷ lines) later = ap (λ e. edit_of line ++ e) (edits_joined lines later)
+    ∙ sym (append_assoc (edit_of line) (edits_of lines) (edits_of later))
 
 -- lines that say nothing spell none
 pub edits_told : (all : List (Option (List ℕ))) → edits_of (filter says all) ≡ edits_of all
@@ -64,24 +66,29 @@ pub spelled_edits : (all : List (Option (List ℕ))) (edits : List Edit) → Spe
 spelled_edits [] [] spells = refl
 spelled_edits [] (e ∷ es) spells = absurd spells
 spelled_edits (l ∷ ls) [] spells = absurd spells
-spelled_edits (l ∷ ls) (e ∷ es) spells = ap (λ x. x ++ edits_of ls) (spelled_edit l e spells.0) ∙ ap (λ x. e ∷ x) (spelled_edits ls es spells.1)
+spelled_edits (l ∷ ls) (e ∷ es) spells = ap (λ x. x ++ edits_of ls) (spelled_edit l e spells.0)
+    ∙ ap (λ x. e ∷ x) (spelled_edits ls es spells.1)
 
-pub weight_joined : (total : ℕ) (book : List Series) (first later : List Edit) → weight total book (first ++ later) ≡ weight total book first + weight total (after_edits total book first) later
+pub weight_joined : (total : ℕ) (book : List Series) (first later : List Edit)
+    → weight total book (first ++ later) ≡ weight total book first + weight total (after_edits total book first) later
 weight_joined total book [] later = omega arith
 weight_joined total book (e ∷ es) later = omega (arith, weight_joined total (book_behind book (apply book total e)) es later)
 
 -- an edit leaves the book that it gives
-edit_book : (given : Result Edited Refusal) (frame : Frame) (old new : State) → Edits given frame old new → (new.book ≡ book_behind old.book given) × (new.total ≡ old.total)
+edit_book : (given : Result Edited Refusal) (frame : Frame) (old new : State) → Edits given frame old new
+    → (new.book ≡ book_behind old.book given) × (new.total ≡ old.total)
 edit_book (Ok edited) frame old new is = (ap (λ (s : State). s.book) is.1, ap (λ (s : State). s.total) is.1)
 edit_book (Err refusal) frame old new is = (ap (λ (s : State). s.book) is.state, ap (λ (s : State). s.total) is.state)
 
-pub replied_book : (edits : List Edit) (frames : List Frame) (old new : State) → RepliesToEdits edits frames old new → new.book ≡ after_edits old.total old.book edits
+pub replied_book : (edits : List Edit) (frames : List Frame) (old new : State) → RepliesToEdits edits frames old new
+    → new.book ≡ after_edits old.total old.book edits
 replied_book [] [] old new replied = ap (λ (s : State). s.book) replied
 replied_book [] (f ∷ fs) old new replied = absurd replied
 replied_book (e ∷ es) [] old new replied = absurd replied
 replied_book (e ∷ es) (f ∷ fs) old new replied =
     let one = edit_book (apply old.book old.total e) f old replied.0 replied.1.0 in
-    replied_book es fs replied.0 new replied.2 ∙ ap (λ b. after_edits replied.0.total b es) one.0 ∙ ap (λ t. after_edits t (book_behind old.book (apply old.book old.total e)) es) one.1
+    replied_book es fs replied.0 new replied.2 ∙ ap (λ b. after_edits replied.0.total b es) one.0
+    ∙ ap (λ t. after_edits t (book_behind old.book (apply old.book old.total e)) es) one.1
 
 -- what holds anyway holds after Ok
 pub always_ok : {T E : Type 0} (r : Result T E) (P : Type 0) → P → OnOk r P
@@ -90,10 +97,16 @@ always_ok (Err e) P p = tt
 
 -- what commits nothing, where the pages stay behind it
 pub unchanged_kept : (told : Type 0) (old mid new : View) → IsUnchanged told old mid → DiskKept mid new → IsUnchanged told old new
-unchanged_kept told old mid new u k = record { image = λ t. k.image ∙ u.image t; fit = λ f. k.fit (u.fit f); syncs = k.syncs ∙ u.syncs; writes = k.writes ∙ u.writes }
+unchanged_kept told old mid new u k = record {
+  image = λ t. k.image ∙ u.image t;
+  fit = λ f. k.fit (u.fit f);
+  syncs = k.syncs ∙ u.syncs;
+  writes = k.writes ∙ u.writes;
+}
 
 -- a request that a line spells which spells no edit
-pub no_edit : (line : List ℕ) (request : Request) → line_text line ≡ Some line → read_line line ≡ Ok request → edit_of (line_text line) ≡ [] → edit_asked request ≡ []
+pub no_edit : (line : List ℕ) (request : Request) → line_text line ≡ Some line → read_line line ≡ Ok request → edit_of (line_text line) ≡ []
+    → edit_asked request ≡ []
 no_edit line request short is none = sym (ap edit_of short ∙ ap edit_read is) ∙ none
 
 -- it is none that asks for an edit
@@ -112,19 +125,24 @@ pub record GroupSynced (total : ℕ) (book : List Series) (edits : List Edit) (d
   pub filled : done < length edits → 22 * turns ≤ weight total book (take done edits)
   pub most : 22 * turns ≤ 22 + weight total book edits
 
-pub group_none : (total : ℕ) (book : List Series) (edits : List Edit) (frames : List Frame) (from : ℕ) → frames ≡ [] → GroupSynced total book edits (length frames) from from
+pub group_none : (total : ℕ) (book : List Series) (edits : List Edit) (frames : List Frame) (from : ℕ) → frames ≡ []
+    → GroupSynced total book edits (length frames) from from
 group_none total book edits [] from none = record { turns = 0; few = omega arith; filled = λ more. omega arith; most = omega arith }
 group_none total book edits (f ∷ fs) from none = cc (none)
 
-first_weight : (total : ℕ) (book : List Series) (edits : List Edit) (count : ℕ) → weight total book (take count edits) ≤ weight total book edits
+first_weight : (total : ℕ) (book : List Series) (edits : List Edit) (count : ℕ)
+    → weight total book (take count edits) ≤ weight total book edits
 first_weight total book edits count =
     omega (arith, weight_joined total book (take count edits) (drop count edits), ap (weight total book) (take-append-drop count edits))
 
-pub group_more : (total : ℕ) (book : List Series) (edits : List Edit) (done covered now from count count' : ℕ) → done < length edits → now ≡ done + covered → covered ≤ length (drop done edits) → AreMany total (after_edits total book (take done edits)) (drop done edits) covered → count' ≤ count + 4
+pub group_more : (total : ℕ) (book : List Series) (edits : List Edit) (done covered now from count count' : ℕ) → done < length edits
+    → now ≡ done + covered → covered ≤ length (drop done edits)
+    → AreMany total (after_edits total book (take done edits)) (drop done edits) covered → count' ≤ count + 4
     → GroupSynced total book edits done from count → GroupSynced total book edits now from count'
 group_more total book edits done covered now from count count' more behind within many most g =
     let filled = g.filled more in
-    let front : take now edits ≡ take done edits ++ take covered (drop done edits) = ap (λ n. take n edits) behind ∙ take-add done covered edits in
+    let front : take now edits ≡ take done edits ++ take covered (drop done edits) = ap (λ n. take n edits) behind
+    ∙ take-add done covered edits in
     let sum = weight_joined total book (take done edits) (take covered (drop done edits)) in
     record {
       turns = g.turns + 1;
@@ -141,7 +159,9 @@ given_length total book [] = refl
 given_length total book (edit ∷ edits) = omega (arith, given_length total (book_behind book (apply book total edit)) edits)
 
 -- behind some edits more
-pub group_next : (total : ℕ) (book : List Series) (edits : List Edit) (before now : List Frame) (image : Image) (from count count' : ℕ) → length before < length edits → DoesSome total (after_edits total book (take (length before) edits)) (drop (length before) edits) before now image → count' ≤ count + 4
+pub group_next : (total : ℕ) (book : List Series) (edits : List Edit) (before now : List Frame) (image : Image) (from count count' : ℕ)
+    → length before < length edits → DoesSome total (after_edits total book (take (length before) edits))
+    (drop (length before) edits) before now image → count' ≤ count + 4
     → GroupSynced total book edits (length before) from count → GroupSynced total book edits (length now) from count'
 group_next total book edits before now image from count count' more does most g =
     let tail = drop (length before) edits in
@@ -157,7 +177,8 @@ group_next total book edits before now image from count count' more does most g 
     ) in
     group_more total book edits (length before) does.covered (length now) from count count' more sum does.within does.many most g
 
-pub group_end : (total : ℕ) (book : List Series) (edits : List Edit) (done from count : ℕ) → GroupSynced total book edits done from count → count ≤ from + group_syncs total book edits
+pub group_end : (total : ℕ) (book : List Series) (edits : List Edit) (done from count : ℕ) → GroupSynced total book edits done from count
+    → count ≤ from + group_syncs total book edits
 group_end total book edits done from count g =
     let s = weight total book edits in
     elim (none_or_one g.turns) [
@@ -169,7 +190,8 @@ group_end total book edits done from count g =
     none_or_one zero = inl refl
     none_or_one (suc m) = inr (m, omega arith)
 
-pub group_stop : (total : ℕ) (book : List Series) (edits : List Edit) (done from count count' : ℕ) → done < length edits → count' ≤ count + 4 → GroupSynced total book edits done from count → count' ≤ from + group_syncs total book edits
+pub group_stop : (total : ℕ) (book : List Series) (edits : List Edit) (done from count count' : ℕ) → done < length edits
+    → count' ≤ count + 4 → GroupSynced total book edits done from count → count' ≤ from + group_syncs total book edits
 group_stop total book edits done from count count' more most g =
     let s = weight total book edits in
     omega (arith, g.few, most, divided g.turns 22 s (omega arith) (omega (arith, g.filled more, first_weight total book edits done)))
@@ -177,7 +199,8 @@ group_stop total book edits done from count count' more most g =
 -- ---- the lines of an input
 
 -- where no line was given
-pub sync_none : (o : Option (List ℕ)) (total : ℕ) (book : List Series) (count pieces : ℕ) → IfSome o (λ input. pieces < 2 ^ 64 - 1 → SyncsLines input total book (pieces - pieces) count count)
+pub sync_none : (o : Option (List ℕ)) (total : ℕ) (book : List Series) (count pieces : ℕ)
+    → IfSome o (λ input. pieces < 2 ^ 64 - 1 → SyncsLines input total book (pieces - pieces) count count)
 sync_none None total book count pieces = tt
 sync_none (Some input) total book count pieces =
     let C : List (Option (List ℕ)) → Type 0 = λ l. length l ≡ 0 + length (edits_of l) in
@@ -215,7 +238,8 @@ edits_few (line ∷ later) = omega (arith, edits_few later, edit_few line, lengt
 -- the lines of all bytes, where the first of them are whole lines or there are no others
 lines_of_both : (front rest : List ℕ) → IsWhole front ⊎ (rest ≡ []) → lines (front ++ rest) ≡ lines front ++ lines rest
 lines_of_both front rest (inl whole) = lines_joined front rest whole
-lines_of_both front rest (inr none) = ap (λ r. lines (front ++ r)) none ∙ ap lines (append-nil front) ∙ sym (append-nil (lines front)) ∙ ap (λ l. lines front ++ l) (sym (ap lines none ∙ lines_none))
+lines_of_both front rest (inr none) = ap (λ r. lines (front ++ r)) none ∙ ap lines (append-nil front) ∙ sym (append-nil (lines front))
+    ∙ ap (λ l. lines front ++ l) (sym (ap lines none ∙ lines_none))
 
 pub less_synced : FirstLinesSyncLess
 less_synced input total book pieces from to others s counted =
@@ -225,6 +249,20 @@ less_synced input total book pieces from to others s counted =
     let edits : edits_of (lines input) ≡ here ++ there = ap edits_of all ∙ edits_joined (lines s.front) (lines s.rest) in
     let more = length-append here there in
     let heavier = weight_joined total book here there in
-    let few = divided (length here / 64) 64 (length (edits_of (lines input))) (omega arith) (omega (arith, div-mul-le_self (length here) 64, ap length edits, more)) in
-    let light = divided (weight total book here / 22) 22 (weight total book (edits_of (lines input))) (omega arith) (omega (arith, div-mul-le_self (weight total book here) 22, ap (weight total book) edits, heavier)) in
-    omega (arith, s.few, few, light, s.counted, counted, ap length all, length-append (lines s.front) (lines s.rest), ap length edits, more, edits_few (lines s.rest))
+    let few = divided (length here / 64) 64 (length (edits_of (lines input))) (omega arith)
+    (omega (arith, div-mul-le_self (length here) 64, ap length edits, more)) in
+    let light = divided (weight total book here / 22) 22 (weight total book (edits_of (lines input))) (omega arith)
+    (omega (arith, div-mul-le_self (weight total book here) 22, ap (weight total book) edits, heavier)) in
+    omega (
+      arith,
+      s.few,
+      few,
+      light,
+      s.counted,
+      counted,
+      ap length all,
+      length-append (lines s.front) (lines s.rest),
+      ap length edits,
+      more,
+      edits_few (lines s.rest),
+    )

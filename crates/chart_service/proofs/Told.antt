@@ -13,14 +13,18 @@ use Rattle.chart_service.specs.Viewing.{ShowsRange}
 use Rattle.chart_service.specs.Planning.{TellsOf}
 
 -- the span at the top is that of all slots
-top_is : ((list : List (Option ℤ)) (b : ℕ) → length list ≤ b → span_over list 0 b ≡ span_of list) → (list : List (Option ℤ)) → length list ≤ 2 ^ 35 → span list (top_key (length list)) ≡ span_over list 0 (length list)
+top_is : ((list : List (Option ℤ)) (b : ℕ) → length list ≤ b → span_over list 0 b ≡ span_of list) → (list : List (Option ℤ))
+    → length list ≤ 2 ^ 35 → span list (top_key (length list)) ≡ span_over list 0 (length list)
 top_is all list few =
     let first : 0 * 2 ^ height (length list) ≡ 0 = omega arith in
     ap (λ a. span_over list a (1 * 2 ^ height (length list))) first
     ∙ all list (1 * 2 ^ height (length list)) (omega (arith, height_covers (length list) few)) ∙ sym (all list (length list) (omega arith))
 
 -- what is told of a series that the nodes agree with
-pub tells_so : ((list : List (Option ℤ)) (b : ℕ) → length list ≤ b → span_over list 0 b ≡ span_of list) → (old new : NodesView) (list : List (Option ℤ)) (axis : Axis) (spec : ViewSpec) (root : Option Span) (range : ValueRange) → Agrees old list → StaysSame old new → root ≡ new.root → ShowsRange spec.range (values_of (kept spec.grid axis list)) range → TellsOf list axis spec (record { axis = axis; root = root; range = range })
+pub tells_so : ((list : List (Option ℤ)) (b : ℕ) → length list ≤ b → span_over list 0 b ≡ span_of list)
+    → (old new : NodesView) (list : List (Option ℤ)) (axis : Axis) (spec : ViewSpec) (root : Option Span) (range : ValueRange)
+    → Agrees old list → StaysSame old new → root ≡ new.root → ShowsRange spec.range (values_of (kept spec.grid axis list)) range
+    → TellsOf list axis spec (record { axis = axis; root = root; range = range })
 tells_so all old new list axis spec root range agrees same is shown = record {
   axis_is = refl;
   root = is ∙ same.root ∙ agrees.root ∙ top_is all list agrees.few;

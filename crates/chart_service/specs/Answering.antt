@@ -8,7 +8,8 @@ use Rattle.zoom_session.specs.declared.session.Session.{Session}
 use Rattle.chart_service.specs.Making.{Makes, AreMade, LinesDone, LinesStop, LinesMoments}
 use Rattle.chart_service.specs.Moments.{IsAhead, Since, Through}
 use Rattle.chart_service.specs.ReadingBlocks.{ReadsFirst, ReadsLines}
-use Rattle.chart_service.specs.Serving.{AnswersNext, SendsText, SendsFirst, SendsFrontOf, SendsTaken, SendsWithin, SendsSome, SendsLines, EndsServe}
+use Rattle.chart_service.specs.Serving.{AnswersNext, SendsText, SendsFirst, SendsFrontOf, SendsTaken, SendsWithin, SendsSome, SendsLines}
+use Rattle.chart_service.specs.Serving.{EndsServe}
 use Rattle.chart_service.specs.Serving as serving
 use Rattle.chart_service.specs.Shown as shown
 use Rattle.chart_service.specs.State.{State}
@@ -26,7 +27,8 @@ Telling = List (Option (List ℕ)) → List Frame → List ℕ → Type 0
 
 -- The bytes for some first lines were sent, lines behind them were done ahead, and making the bytes of their first frame
 -- gave this error.
-pub record ReplyFails {S F : Type 0} (makes : Makes S F) (kept kept' : S) (input : List ℕ) (old new : State) (before now : Option (List ℕ)) (e : F) : Type 0 where
+pub record ReplyFails {S F : Type 0} (makes : Makes S F) (kept kept' : S) (input : List ℕ) (old new : State) (before now : Option (List ℕ))
+    (e : F) : Type 0 where
   pub rest : List ℕ
   pub between : State
   pub last : S
@@ -38,19 +40,22 @@ pub record ReplyFails {S F : Type 0} (makes : Makes S F) (kept kept' : S) (input
   pub fails : makes last frame (Err e) kept'
 
 -- why not all lines of the input were answered, and what was sent, where the pages stand for a book then
-abbrev pub EndsAt : {S F : Type 0} → Makes S F → S → S → List ℕ → State → State → Option (List ℕ) → Option (List ℕ) → Option (List ℕ) → AnswerEnd F → Type 0
+abbrev pub EndsAt : {S F : Type 0} → Makes S F → S → S → List ℕ → State → State → Option (List ℕ) → Option (List ℕ) → Option (List ℕ)
+    → AnswerEnd F → Type 0
 EndsAt makes kept kept' input old new left before now (Serve ReadFault) =
     IfSome left (λ bytes. SendsTaken (AreMade makes kept kept') input bytes old new before now)
 EndsAt makes kept kept' input old new left before now (Serve SendFault) = SendsFrontOf (AreMade makes kept kept') input old new before now
 EndsAt makes kept kept' input old new left before now (Serve DiskFault) = ⊥
 EndsAt makes kept kept' input old new left before now (Serve (Damaged page)) = ⊥
 EndsAt makes kept kept' input old new left before now (Serve InputTooLong) = SendsWithin (AreMade makes kept kept') input old new before now
-EndsAt {S} makes kept kept' input old new left before now (Serve NoMemory) = (last : S) × SendsSome (AreMade makes kept last) input old new before now
+EndsAt {S} makes kept kept' input old new left before now (Serve NoMemory) = (last : S)
+    × SendsSome (AreMade makes kept last) input old new before now
 EndsAt makes kept kept' input old new left before now (Reply e) = ReplyFails makes kept kept' input old new before now e
 
 -- Why not all lines of the input were answered, and what was sent. Where it is no fault of the disk, the pages stand for
 -- a book then; no page is damaged.
-abbrev pub EndsAnswers : {S F : Type 0} → Makes S F → S → S → Option (List ℕ) → State → Image → List Session → Option (List ℕ) → Option (List ℕ) → Option (List ℕ) → AnswerEnd F → Type 0
+abbrev pub EndsAnswers : {S F : Type 0} → Makes S F → S → S → Option (List ℕ) → State → Image → List Session → Option (List ℕ)
+    → Option (List ℕ) → Option (List ℕ) → AnswerEnd F → Type 0
 EndsAnswers {S} makes kept kept' o old image sessions left before now (Serve DiskFault) =
     (last : S) × IfSome o (λ input. SendsLines (AreMade makes kept last) input old before now)
 EndsAnswers makes kept kept' o old image sessions left before now (Serve (Damaged page)) = ⊥
@@ -74,38 +79,46 @@ module _ {P : Type 0} {g : Ghosts P} (left sent : P → Option (List ℕ)) where
   -- the text for the whole input was sent, and the pages stand for the book that its lines leave
   abbrev pub SendsAll : Telling → ℕ → List Series → Service P g → Service P g → Type 0
   SendsAll IsText total book old new =
-      shown.StandsSo total new (λ after. IfSome (left_in old) (λ input. SendsText IsText input (shown.state old total book) after (sent_in old) (sent_in new)))
+      shown.StandsSo total new (λ after. IfSome (left_in old)
+      (λ input. SendsText IsText input (shown.state old total book) after (sent_in old) (sent_in new)))
 
   -- the same, where the input is told
   abbrev pub SendsWhole : Telling → ℕ → List Series → Service P g → Service P g → Type 0
   SendsWhole IsText total book old new =
-      IfSome (left_in old) (λ input. shown.StandsSo total new (λ after. SendsText IsText input (shown.state old total book) after (sent_in old) (sent_in new)))
+      IfSome (left_in old) (λ input. shown.StandsSo total new
+      (λ after. SendsText IsText input (shown.state old total book) after (sent_in old) (sent_in new)))
 
   -- why not all lines of the input were answered, and what was sent
   abbrev pub EndsBy : {S F : Type 0} → Makes S F → S → S → ℕ → List Series → Service P g → Service P g → AnswerEnd F → Type 0
   EndsBy makes kept kept' total book old new =
-      EndsAnswers makes kept kept' (left_in old) (shown.state old total book) (shown.image new) new.sessions (left_in new) (sent_in old) (sent_in new)
+      EndsAnswers makes kept kept' (left_in old) (shown.state old total book) (shown.image new) new.sessions (left_in new) (sent_in old)
+      (sent_in new)
 
   -- the same of a serving
   abbrev pub ServeEndsBy : ℕ → List Series → Service P g → Service P g → ServeEnd → Type 0
   ServeEndsBy total book old new end =
-      IfSome (left_in old) (λ input. EndsServe input (shown.state old total book) (shown.image new) new.sessions (left_in new) (sent_in old) (sent_in new) end)
+      IfSome (left_in old) (λ input. EndsServe input (shown.state old total book) (shown.image new) new.sessions (left_in new) (sent_in old)
+      (sent_in new) end)
 
   -- at each moment a crash leaves a book with each edit whose reply was sent by then, and at most `most_ahead` edits more
   abbrev pub LastsBy : Telling → ℕ → List Series → Service P g → Service P g → Type 0
   LastsBy IsText total book old new =
-      IfSome (left_in old) (λ input. IfSome (sent_in old) (λ before. Since (shown.view old) (shown.view new) (IsAhead IsText input total (shown.state old total book) (sent_now (shown.view old)))))
+      IfSome (left_in old) (λ input. IfSome (sent_in old)
+      (λ before. Since (shown.view old) (shown.view new)
+      (IsAhead IsText input total (shown.state old total book) (sent_now (shown.view old)))))
 
 module _ {P : Type 0} {g : Ghosts P} {S F : Type 0} (sent : P → Option (List ℕ)) (makes : Makes S F) where
   -- lines are answered, and the pages stand for the book that they leave
   abbrev pub AnswersOn : List (Option (List ℕ)) → S → S → ℕ → List Series → Service P g → Service P g → Type 0
   AnswersOn lines kept kept' total book old new =
-      shown.StandsSo total new (λ after. LinesDone makes lines kept kept' (shown.state old total book) after (sent (shown.pages old)) (sent (shown.pages new)))
+      shown.StandsSo total new (λ after. LinesDone makes lines kept kept' (shown.state old total book) after (sent (shown.pages old))
+      (sent (shown.pages new)))
 
   -- why they weren't
   abbrev pub StopsOn : List (Option (List ℕ)) → S → S → ℕ → List Series → Service P g → Service P g → AnswerEnd F → Type 0
   StopsOn lines kept kept' total book old new =
-      LinesStop makes lines kept kept' (shown.state old total book) (shown.image new) new.sessions (sent (shown.pages old)) (sent (shown.pages new))
+      LinesStop makes lines kept kept' (shown.state old total book) (shown.image new) new.sessions (sent (shown.pages old))
+      (sent (shown.pages new))
 
 -- the lines of the input read no more blocks than they may, and no other block was read
 abbrev pub ReadsByLines : {P : Type 0} {g : Ghosts P} → (P → Option (List ℕ)) → ℕ → List Series → Service P g → Service P g → Type 0
@@ -117,15 +130,20 @@ abbrev pub ReadsAsFirst : {P : Type 0} {g : Ghosts P} → List (Option (List ℕ
 ReadsAsFirst lines total book old new = ReadsFirst lines (shown.state old total book) (shown.view old).reads (shown.view new).reads
 
 -- the lines of the input sync no more often than they may, where the pieces are counted
-abbrev pub SyncsByLines : {P : Type 0} {g : Ghosts P} → (P → Option (List ℕ)) → (P → ℕ) → ℕ → List Series → Service P g → Service P g → Type 0
+abbrev pub SyncsByLines : {P : Type 0} {g : Ghosts P} → (P → Option (List ℕ)) → (P → ℕ) → ℕ → List Series → Service P g → Service P g
+    → Type 0
 SyncsByLines left pieces total book old new =
-    IfSome (left (shown.pages old)) (λ input. pieces (shown.pages new) < 2 ^ 64 - 1 → SyncsLines input total book (pieces (shown.pages new) - pieces (shown.pages old)) (shown.view old).syncs (shown.view new).syncs)
+    IfSome (left (shown.pages old)) (λ input. pieces (shown.pages new) < 2 ^ 64 - 1
+    → SyncsLines input total book (pieces (shown.pages new) - pieces (shown.pages old)) (shown.view old).syncs (shown.view new).syncs)
 
 -- while lines are answered a crash leaves the book from before, or the one after them
-abbrev pub LeavesBy : {P : Type 0} {g : Ghosts P} {S F : Type 0} → Makes S F → S → List (Option (List ℕ)) → ℕ → List Series → Service P g → Service P g → Type 0
+abbrev pub LeavesBy : {P : Type 0} {g : Ghosts P} {S F : Type 0} → Makes S F → S → List (Option (List ℕ)) → ℕ → List Series → Service P g
+    → Service P g → Type 0
 LeavesBy makes kept lines total book old new =
     Through (shown.view old) (shown.view new) (LinesMoments makes kept lines (shown.state old total book) (sent_now (shown.view old)))
 
 -- the same where the bytes sent are told
-abbrev pub LeavesTold : {P : Type 0} {g : Ghosts P} {S F : Type 0} → (P → Option (List ℕ)) → Makes S F → S → List (Option (List ℕ)) → ℕ → List Series → Service P g → Service P g → Type 0
-LeavesTold sent makes kept lines total book old new = IfSome (sent (shown.pages old)) (λ bytes. LeavesBy makes kept lines total book old new)
+abbrev pub LeavesTold : {P : Type 0} {g : Ghosts P} {S F : Type 0} → (P → Option (List ℕ)) → Makes S F → S → List (Option (List ℕ)) → ℕ
+    → List Series → Service P g → Service P g → Type 0
+LeavesTold sent makes kept lines total book old new = IfSome (sent (shown.pages old))
+    (λ bytes. LeavesBy makes kept lines total book old new)

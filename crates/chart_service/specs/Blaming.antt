@@ -83,12 +83,14 @@ LineBlames line last told count image (step.Damaged page) = Blames line last tol
 LineBlames line last told count image step.NoMemory = ⊤
 
 -- such frames were given to the lines, and the last views of the sessions are of the series that they showed
-pub record GivesLast {S F : Type 0} (makes : Makes S F) (lines : List (Option (List ℕ))) (kept last : S) (own sessions : List Session) (before now : Option (List ℕ)) : Type 0 where
+pub record GivesLast {S F : Type 0} (makes : Makes S F) (lines : List (Option (List ℕ))) (kept last : S) (own sessions : List Session)
+    (before now : Option (List ℕ)) : Type 0 where
   pub gives : Gives makes lines kept last (λ n. is_open n own) (λ n. is_open n sessions) before now
   pub lasts : LastsBehind lines gives.frames own sessions
 
 -- such frames were given to some first of the lines, and the next one blames the page
-pub record GivesBlamed {S F : Type 0} (makes : Makes S F) (lines : List (Option (List ℕ))) (kept kept' : S) (own : List Session) (before now : Option (List ℕ)) (told : Type 0) (count : ℕ) (image : Image) (page : ℕ) : Type 0 where
+pub record GivesBlamed {S F : Type 0} (makes : Makes S F) (lines : List (Option (List ℕ))) (kept kept' : S) (own : List Session)
+    (before now : Option (List ℕ)) (told : Type 0) (count : ℕ) (image : Image) (page : ℕ) : Type 0 where
   pub front : List (Option (List ℕ))
   pub line : Option (List ℕ)
   pub behind : List (Option (List ℕ))
@@ -98,7 +100,8 @@ pub record GivesBlamed {S F : Type 0} (makes : Makes S F) (lines : List (Option 
   pub blames : Blames line (IsLastIn sessions) told count image page
 
 -- where an end calls a page damaged
-abbrev pub BlamesEnd : {S F : Type 0} → Makes S F → List (Option (List ℕ)) → S → S → List Session → Option (List ℕ) → Option (List ℕ) → Type 0 → ℕ → Image → AnswerEnd F → Type 0
+abbrev pub BlamesEnd : {S F : Type 0} → Makes S F → List (Option (List ℕ)) → S → S → List Session → Option (List ℕ) → Option (List ℕ)
+    → Type 0 → ℕ → Image → AnswerEnd F → Type 0
 BlamesEnd makes lines kept kept' own before now told count image (Serve ReadFault) = ⊤
 BlamesEnd makes lines kept kept' own before now told count image (Serve SendFault) = ⊤
 BlamesEnd makes lines kept kept' own before now told count image (Serve DiskFault) = ⊤
@@ -109,14 +112,17 @@ BlamesEnd makes lines kept kept' own before now told count image (Serve NoMemory
 BlamesEnd makes lines kept kept' own before now told count image (Reply e) = ⊤
 
 -- and by what is answered
-abbrev pub BlamesBy : {T S F : Type 0} → Makes S F → List (Option (List ℕ)) → S → S → List Session → List Session → Option (List ℕ) → Option (List ℕ) → Type 0 → ℕ → Image → Result T (AnswerEnd F) → Type 0
-BlamesBy makes lines kept kept' own sessions before now told count image (Ok done) = GivesLast makes lines kept kept' own sessions before now
+abbrev pub BlamesBy : {T S F : Type 0} → Makes S F → List (Option (List ℕ)) → S → S → List Session → List Session → Option (List ℕ)
+    → Option (List ℕ) → Type 0 → ℕ → Image → Result T (AnswerEnd F) → Type 0
+BlamesBy makes lines kept kept' own sessions before now told count image
+    (Ok done) = GivesLast makes lines kept kept' own sessions before now
 BlamesBy makes lines kept kept' own sessions before now told count image (Err end) =
     BlamesEnd makes lines kept kept' own before now told count image end
 
 -- Such frames were given to some first of the input's lines that aren't empty, and their bytes were sent. The next line blames the
 -- page, by the series that the sessions were shown last.
-pub record BlamesNext {S F : Type 0} (makes : Makes S F) (kept kept' : S) (own : List Session) (input : List ℕ) (before now : Option (List ℕ)) (told_now : Type 0) (count : ℕ) (image : Image) (page : ℕ) : Type 0 where
+pub record BlamesNext {S F : Type 0} (makes : Makes S F) (kept kept' : S) (own : List Session) (input : List ℕ)
+    (before now : Option (List ℕ)) (told_now : Type 0) (count : ℕ) (image : Image) (page : ℕ) : Type 0 where
   pub front : List (Option (List ℕ))
   pub line : Option (List ℕ)
   pub behind : List (Option (List ℕ))

@@ -17,7 +17,8 @@ use Rattle.chart_service.specs.Looking.{IsViewCause, Looks, Looked, Replying}
 use Rattle.chart_service.specs.Replies.{AnswersBy, AnswersView, RepliesToView, RepliesByText, MovesIn, Opens, own_zoom}
 use Rattle.chart_service.specs.Shown as shown
 use Rattle.chart_service.specs.State.{State}
-use Rattle.chart_service.specs.Stepping.{IsStepCause, IsLineCause, IsUnchangedBy, IsUnchangedFor, ReadsBy, ReadsByText, ReadsFew, ReadsFor, ReadsLast, ReadsRows, series_at}
+use Rattle.chart_service.specs.Stepping.{IsStepCause, IsLineCause, IsUnchangedBy, IsUnchangedFor, ReadsBy, ReadsByText, ReadsFew, ReadsFor}
+use Rattle.chart_service.specs.Stepping.{ReadsLast, ReadsRows, series_at}
 use Rattle.chart_service.specs.Viewing.{AnswersRows}
 use Rattle.chart_service.specs.declared.failure.ServiceError.{ServiceError}
 use Rattle.chart_service.specs.declared.service.Service.{Service}
@@ -31,7 +32,8 @@ module _ {P : Type 0} {g : Ghosts P} where
   -- with a frame other than Done, and with an error that is no fault of the disk, nothing was committed
   abbrev pub CommitsOnly : Result Frame ServiceError → Service P g → Service P g → Type 0
   CommitsOnly result old new =
-      MatchResult result (λ frame. IsUnchangedBy frame (shown.IsTold old) (shown.view old) (shown.view new)) (λ error. IsUnchangedFor error (shown.IsTold old) (shown.view old) (shown.view new))
+      MatchResult result (λ frame. IsUnchangedBy frame (shown.IsTold old) (shown.view old) (shown.view new))
+      (λ error. IsUnchangedFor error (shown.IsTold old) (shown.view old) (shown.view new))
 
   -- a line reads no more blocks than the request that it spells may
   abbrev pub ReadsFewFor : Option (List ℕ) → ℕ → List Series → Service P g → Service P g → Type 0
@@ -44,7 +46,8 @@ module _ {P : Type 0} {g : Ghosts P} where
   -- a repeat of a session's last view reads no more blocks than a zoom to the view's own window may
   abbrev pub ReadsFewAgain : ℕ → Service P g → Service P g → Type 0
   ReadsFewAgain session old new =
-      ForLast session old (λ last. shown.ForBook old (λ total book. ReadsFew (own_zoom session last) book old.sessions (shown.view old).reads (shown.view new).reads))
+      ForLast session old (λ last. shown.ForBook old
+      (λ total book. ReadsFew (own_zoom session last) book old.sessions (shown.view old).reads (shown.view new).reads))
 
   -- why a request wasn't answered, and a line
   abbrev pub IsCause : Request → Service P g → Service P g → ServiceError → Type 0
@@ -71,17 +74,21 @@ module _ {P : Type 0} {g : Ghosts P} where
   -- the pages, the numbers of page 0 and the catalog stay
   abbrev pub LooksOnly : Service P g → Service P g → Type 0
   LooksOnly old new =
-      Looks (shown.IsTold old) (shown.IsTold new) (shown.view old) (shown.view new) (shown.under old) (shown.under new) (shown.numbers old) (shown.numbers new) (shown.catalog old) (shown.catalog new)
+      Looks (shown.IsTold old) (shown.IsTold new) (shown.view old) (shown.view new) (shown.under old) (shown.under new) (shown.numbers old)
+      (shown.numbers new) (shown.catalog old) (shown.catalog new)
 
   -- so is what comes of a request that is no edit, in this session, whatever the pages are
   abbrev pub LooksIn : Option ℕ → Result Frame ServiceError → Service P g → Service P g → Type 0
   LooksIn session result old new =
-      Looked session result old.sessions new.sessions (shown.IsTold old) (shown.IsTold new) (shown.view old) (shown.view new) (shown.under old) (shown.under new) (shown.numbers old) (shown.numbers new) (shown.catalog old) (shown.catalog new)
+      Looked session result old.sessions new.sessions (shown.IsTold old) (shown.IsTold new) (shown.view old) (shown.view new)
+      (shown.under old) (shown.under new) (shown.numbers old) (shown.numbers new) (shown.catalog old) (shown.catalog new)
 
   -- and over each book that the pages stand for
-  abbrev pub RepliesOver : (Frame → State → State → Type 0) → (List Series → ℕ → ℕ → Type 0) → Result Frame ServiceError → Service P g → Service P g → Type 0
+  abbrev pub RepliesOver : (Frame → State → State → Type 0) → (List Series → ℕ → ℕ → Type 0) → Result Frame ServiceError → Service P g
+      → Service P g → Type 0
   RepliesOver Reply Reads result old new =
-      shown.ForBook old (λ total book. Replying Reply (Reads book) result total book old.sessions new.sessions (shown.view old) (shown.view new))
+      shown.ForBook old (λ total book. Replying Reply (Reads book) result total book old.sessions new.sessions (shown.view old)
+      (shown.view new))
 
 -- the frame has the rows that the view's filter keeps of its series, and the coefficients that its client lacks
 abbrev pub HasRows : ViewSpec → ℕ → Frame → State → State → Type 0
@@ -113,7 +120,8 @@ abbrev pub ReadsNamed : Option (List Step) → List ℕ → Viewport → List Se
 ReadsNamed filter name viewport book = ReadsBy filter viewport.w viewport.t0 viewport.t1 (series_at book (id_of name book))
 
 abbrev pub ShowsByText : Option (List ℕ) → ℕ → List ℕ → Viewport → RangeWord → Frame → State → State → Type 0
-ShowsByText text number name viewport word frame old new = RepliesByText text (λ filter. ShowsBy filter number name viewport word frame old new) frame old new
+ShowsByText text number name viewport word frame old new = RepliesByText text
+    (λ filter. ShowsBy filter number name viewport word frame old new) frame old new
 
 abbrev pub ReadsByName : Option (List ℕ) → List ℕ → Viewport → List Series → ℕ → ℕ → Type 0
 ReadsByName text name viewport book = ReadsByText text viewport.w viewport.t0 viewport.t1 (series_at book (id_of name book))

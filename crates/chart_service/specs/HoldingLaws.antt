@@ -23,8 +23,12 @@ views_prop count sessions = hlevel (props, view_prop)
 pub sessions_none : (store : Type 0) (at : List Session) → store → KeepsSessions store at at
 sessions_none store at is = record { store_is = is; sessions = refl }
 
-pub sessions_then : (one two both : Type 0) (old between new : List Session) → (one → two → both) → KeepsSessions one old between → KeepsSessions two between new → KeepsSessions both old new
-sessions_then one two both old between new join first second = record { store_is = join first.store_is second.store_is; sessions = second.sessions ∙ first.sessions }
+pub sessions_then : (one two both : Type 0) (old between new : List Session) → (one → two → both) → KeepsSessions one old between
+    → KeepsSessions two between new → KeepsSessions both old new
+sessions_then one two both old between new join first second = record {
+  store_is = join first.store_is second.store_is;
+  sessions = second.sessions ∙ first.sessions;
+}
 
 pub sessions_so : (one two : Type 0) (old new : List Session) → (one → two) → KeepsSessions one old new → KeepsSessions two old new
 sessions_so one two old new more kept = record { store_is = more kept.store_is; sessions = kept.sessions }

@@ -13,7 +13,8 @@ use Rattle.chart_service.specs.declared.failure.AnswerEnd.TheVariants.{Serve, Re
 -- A frame whose bytes were made opens its session for what is known, or closes it, or leaves all sessions.
 abbrev pub Follows : {S F : Type 0} → Makes S F → (S → ℕ → Bool) → Type 0
 Follows {S} makes knows =
-    (old new : S) (frame : Frame) (piece : List ℕ) (n : ℕ) → Fits frame → makes old frame (Ok piece) new → IsTrue (opens frame n (knows old n)) → IsTrue (knows new n)
+    (old new : S) (frame : Frame) (piece : List ℕ) (n : ℕ) → Fits frame → makes old frame (Ok piece) new
+    → IsTrue (opens frame n (knows old n)) → IsTrue (knows new n)
 
 -- each session that is open is known
 abbrev pub KnowsOpen : {S : Type 0} → (S → ℕ → Bool) → S → List Session → Type 0
@@ -33,4 +34,5 @@ NamesKnown (Report report) knows = ⊤
 -- bytes that weren't made are those of a frame that names known sessions
 abbrev pub EndsKnown : {S F : Type 0} → Makes S F → (S → ℕ → Bool) → AnswerEnd F → Type 0
 EndsKnown makes knows (Serve end) = ⊤
-EndsKnown {S} makes knows (Reply e) = (old : S) × (frame : Frame) × (new : S) × Fits frame × NamesKnown frame (knows old) × makes old frame (Err e) new
+EndsKnown {S} makes knows (Reply e) = (old : S) × (frame : Frame) × (new : S) × Fits frame × NamesKnown frame (knows old)
+    × makes old frame (Err e) new

@@ -17,7 +17,8 @@ abbrev pub OwnFramesAreTheSame : Type 0
 OwnFramesAreTheSame =
     (n : ℕ) (lines others : List (Option (List ℕ))) (frames answers : List Frame) (old new behind : State)
     → RepliesToAll old lines frames new → RepliesToAll old others answers behind → NeverCrowded (own_frames n lines frames)
-    → NeverCrowded (own_frames n others answers) → own_lines n lines ≡ own_lines n others → own_frames n lines frames ≡ own_frames n others answers
+    → NeverCrowded (own_frames n others answers) → own_lines n lines ≡ own_lines n others
+    → own_frames n lines frames ≡ own_frames n others answers
 
 -- The frames of an input's lines, and the state behind them, are determined by the state before them.
 abbrev pub FramesAreOne : Type 0

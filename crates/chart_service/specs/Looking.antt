@@ -39,7 +39,8 @@ IsNoEdit (Pan number by) = ⊤
 IsNoEdit (Close number) = ⊤
 
 -- The pages, the numbers of page 0 and the catalog stay. Blocks may be read.
-pub record Looks (told_old told_new : Type 0) (old new under under' : View) (s s' : Superblock) (catalog catalog' : List StoredSeries) : Type 0 where
+pub record Looks (told_old told_new : Type 0) (old new under under' : View) (s s' : Superblock)
+    (catalog catalog' : List StoredSeries) : Type 0 where
   pub time : Passes old new (Now old) (Quiet old)
   pub goes_on : GoesOn under under'
   pub told : told_old → told_new
@@ -92,7 +93,8 @@ IsViewCause IsShown (Damaged page) told catalog total old new = IsDamagedToView 
 IsViewCause IsShown NoMemory told catalog total old new = ⊤
 
 -- what comes of a request that is no edit, whatever the pages are
-pub record Looked (number : Option ℕ) (result : Result Frame ServiceError) (sessions sessions' : List Session) (told told' : Type 0) (old new under under' : View) (s s' : Superblock) (catalog catalog' : List StoredSeries) : Type 0 where
+pub record Looked (number : Option ℕ) (result : Result Frame ServiceError) (sessions sessions' : List Session) (told told' : Type 0)
+    (old new under under' : View) (s s' : Superblock) (catalog catalog' : List StoredSeries) : Type 0 where
   pub fits : IfOk result Fits
   pub opens : IfOk result (λ frame. OpensBy frame sessions sessions')
   pub lost : OnErr result (LosesAtMost number sessions sessions')
@@ -100,7 +102,9 @@ pub record Looked (number : Option ℕ) (result : Result Frame ServiceError) (se
   pub looks : Looks told told' old new under under' s s' catalog catalog'
 
 -- what comes of it where the pages stand for a book
-pub record Replying (Reply : Frame → State → State → Type 0) (Reads : ℕ → ℕ → Type 0) (result : Result Frame ServiceError) (total : ℕ) (book : List Series) (sessions sessions' : List Session) (old new : View) : Type 0 where
+pub record Replying (Reply : Frame → State → State → Type 0) (Reads : ℕ → ℕ
+    → Type 0) (result : Result Frame ServiceError) (total : ℕ) (book : List Series) (sessions sessions' : List Session)
+    (old new : View) : Type 0 where
   pub reply : IfOk result (λ frame. Reply frame (state_of book total sessions) (state_of book total sessions'))
   pub standing : IfErr result IsOutside
   pub reads : Reads old.reads new.reads

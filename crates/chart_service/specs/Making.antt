@@ -21,7 +21,8 @@ Makes S F = S → Frame → Result (List ℕ) F → S → Type 0
 abbrev pub AreMade : {S F : Type 0} → Makes S F → S → S → List (Option (List ℕ)) → List Frame → List ℕ → Type 0
 AreMade makes old new lines [] text = (text ≡ []) × (new ≡ old)
 AreMade {S} makes old new lines (frame ∷ frames) text =
-    (piece : List ℕ) × (between : S) × (rest : List ℕ) × makes old frame (Ok piece) between × (text ≡ piece ++ rest) × AreMade makes between new lines frames rest
+    (piece : List ℕ) × (between : S) × (rest : List ℕ) × makes old frame (Ok piece) between × (text ≡ piece ++ rest)
+    × AreMade makes between new lines frames rest
 
 -- the same, whatever is left
 abbrev pub AreMadeFrom : {S F : Type 0} → Makes S F → S → List (Option (List ℕ)) → List Frame → List ℕ → Type 0
@@ -46,7 +47,8 @@ FrameStops makes frame old new before now (Serve NoMemory) = ⊥
 FrameStops makes frame old new before now (Reply e) = (now ≡ before) × makes old frame (Err e) new
 
 -- lines are answered, and the bytes of their frames are sent
-pub record LinesDone {S F : Type 0} (makes : Makes S F) (lines : List (Option (List ℕ))) (kept kept' : S) (old new : State) (before now : Option (List ℕ)) : Type 0 where
+pub record LinesDone {S F : Type 0} (makes : Makes S F) (lines : List (Option (List ℕ))) (kept kept' : S) (old new : State)
+    (before now : Option (List ℕ)) : Type 0 where
   pub frames : List Frame
   pub replied : RepliesToAll old lines frames new
   pub text : List ℕ
@@ -55,7 +57,8 @@ pub record LinesDone {S F : Type 0} (makes : Makes S F) (lines : List (Option (L
 
 -- lines are done, the bytes of their first frames are sent, and those of the frame behind them weren't made, or not sent
 -- whole
-pub record LinesCut {S F : Type 0} (makes : Makes S F) (lines : List (Option (List ℕ))) (kept kept' : S) (old new : State) (before now : Option (List ℕ)) (end : AnswerEnd F) : Type 0 where
+pub record LinesCut {S F : Type 0} (makes : Makes S F) (lines : List (Option (List ℕ))) (kept kept' : S) (old new : State)
+    (before now : Option (List ℕ)) (end : AnswerEnd F) : Type 0 where
   pub front : List (Option (List ℕ))
   pub rest : List (Option (List ℕ))
   pub lines_are : lines ≡ front ++ rest
@@ -77,9 +80,11 @@ pub record DoesFirst (lines : List (Option (List ℕ))) (old new : State) : Type
   pub replied : RepliesToAll old front frames new
 
 -- why lines weren't answered, or the bytes of their frames not sent, where the pages stand for a book then
-abbrev pub LinesStopAt : {S F : Type 0} → Makes S F → List (Option (List ℕ)) → S → S → State → State → Option (List ℕ) → Option (List ℕ) → AnswerEnd F → Type 0
+abbrev pub LinesStopAt : {S F : Type 0} → Makes S F → List (Option (List ℕ)) → S → S → State → State → Option (List ℕ) → Option (List ℕ)
+    → AnswerEnd F → Type 0
 LinesStopAt makes lines kept kept' old new before now (Serve ReadFault) = ⊥
-LinesStopAt makes lines kept kept' old new before now (Serve SendFault) = LinesCut makes lines kept kept' old new before now (Serve SendFault)
+LinesStopAt makes lines kept kept' old new before now (Serve SendFault) = LinesCut makes lines kept kept' old new before now
+    (Serve SendFault)
 LinesStopAt makes lines kept kept' old new before now (Serve DiskFault) = ⊥
 LinesStopAt makes lines kept kept' old new before now (Serve (Damaged page)) = ⊥
 LinesStopAt makes lines kept kept' old new before now (Serve InputTooLong) = ⊥
@@ -87,7 +92,8 @@ LinesStopAt makes lines kept kept' old new before now (Serve NoMemory) = (now �
 LinesStopAt makes lines kept kept' old new before now (Reply e) = LinesCut makes lines kept kept' old new before now (Reply e)
 
 -- the same; where it is no fault of the disk, the pages stand for a book then
-abbrev pub LinesStop : {S F : Type 0} → Makes S F → List (Option (List ℕ)) → S → S → State → Image → List Session → Option (List ℕ) → Option (List ℕ) → AnswerEnd F → Type 0
+abbrev pub LinesStop : {S F : Type 0} → Makes S F → List (Option (List ℕ)) → S → S → State → Image → List Session → Option (List ℕ)
+    → Option (List ℕ) → AnswerEnd F → Type 0
 LinesStop makes lines kept kept' old image sessions before now (Serve DiskFault) = now ≡ before
 LinesStop makes lines kept kept' old image sessions before now (Serve (Damaged page)) = ⊥
 LinesStop makes lines kept kept' old image sessions before now end =
@@ -117,10 +123,12 @@ FrameMoments makes kept frame old new = Through old new (λ image count. Now old
 -- after so many bytes none of the bytes that are made for the first of these frames is sent, or some, or all of them
 abbrev pub RepliesSent : {S F : Type 0} → Makes S F → S → State → List (Option (List ℕ)) → List Frame → ℕ → ℕ → Type 0
 RepliesSent {S} makes kept old lines frames from count =
-    (count ≡ from) ⊎ ((first : FirstOf old lines frames) × (text : List ℕ) × (new : S) × AreMade makes kept new first.front first.shown text × (from ≤ count) × (count ≤ from + length text))
+    (count ≡ from) ⊎ ((first : FirstOf old lines frames) × (text : List ℕ) × (new : S) × AreMade makes kept new first.front first.shown text
+    × (from ≤ count) × (count ≤ from + length text))
 
 -- some first of the lines are done, the image stands for the book then, and at most the bytes of their frames are sent
-pub record LinesNext {S F : Type 0} (makes : Makes S F) (kept : S) (lines : List (Option (List ℕ))) (old : State) (from : ℕ) (image : Image) (count : ℕ) : Type 0 where
+pub record LinesNext {S F : Type 0} (makes : Makes S F) (kept : S) (lines : List (Option (List ℕ))) (old : State) (from : ℕ) (image : Image)
+    (count : ℕ) : Type 0 where
   pub front : List (Option (List ℕ))
   pub rest : List (Option (List ℕ))
   pub lines_are : lines ≡ front ++ rest
@@ -132,7 +140,8 @@ pub record LinesNext {S F : Type 0} (makes : Makes S F) (kept : S) (lines : List
 
 -- while lines are answered the image stands for the book from before, or for the one after some of them
 abbrev pub LinesMoments : {S F : Type 0} → Makes S F → S → List (Option (List ℕ)) → State → ℕ → Image → ℕ → Type 0
-LinesMoments makes kept lines old from image count = (StandsForBook image old.total old.book × (count ≡ from)) ⊎ LinesNext makes kept lines old from image count
+LinesMoments makes kept lines old from image count = (StandsForBook image old.total old.book × (count ≡ from))
+    ⊎ LinesNext makes kept lines old from image count
 
 -- ---- frames in a row
 
@@ -141,7 +150,8 @@ abbrev pub FramesSent : {S F : Type 0} → Makes S F → List Frame → S → S 
 FramesSent makes frames old new before now = (text : List ℕ) × AreMade makes old new [] frames text × (now ≡ sent_after text before)
 
 -- those of some first frames were, and those of the next one weren't made, or not sent whole
-pub record FramesCut {S F : Type 0} (makes : Makes S F) (frames : List Frame) (old new : S) (before now : Option (List ℕ)) (end : AnswerEnd F) : Type 0 where
+pub record FramesCut {S F : Type 0} (makes : Makes S F) (frames : List Frame) (old new : S) (before now : Option (List ℕ))
+    (end : AnswerEnd F) : Type 0 where
   pub shown : List Frame
   pub frame : Frame
   pub later : List Frame
@@ -154,7 +164,8 @@ pub record FramesCut {S F : Type 0} (makes : Makes S F) (frames : List Frame) (o
 -- after so many bytes none of the bytes that are made for the first of the frames is sent, or some, or all of them
 abbrev pub FirstSent : {S F : Type 0} → Makes S F → S → List Frame → ℕ → ℕ → Type 0
 FirstSent {S} makes kept frames from count =
-    (count ≡ from) ⊎ ((shown : List Frame) × (later : List Frame) × (text : List ℕ) × (new : S) × (frames ≡ shown ++ later) × AreMade makes kept new [] shown text × (from ≤ count) × (count ≤ from + length text))
+    (count ≡ from) ⊎ ((shown : List Frame) × (later : List Frame) × (text : List ℕ) × (new : S) × (frames ≡ shown ++ later)
+    × AreMade makes kept new [] shown text × (from ≤ count) × (count ≤ from + length text))
 
 -- while the bytes of frames are sent a crash leaves what it might have left before
 abbrev pub FramesMoments : {S F : Type 0} → Makes S F → S → List Frame → View → View → Type 0

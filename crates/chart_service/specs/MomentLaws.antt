@@ -21,20 +21,23 @@ since_none at IsSo now = record {
 }
 
 -- what calls leave and send at each moment
-pub through_by : (old new : View) (images : Image → Type 0) (sent : ℕ → Type 0) (IsSo : Image → ℕ → Type 0) → Passes old new images sent → ((image : Image) (count : ℕ) → images image → sent count → IsSo image count) → Through old new IsSo
+pub through_by : (old new : View) (images : Image → Type 0) (sent : ℕ → Type 0) (IsSo : Image → ℕ → Type 0) → Passes old new images sent
+    → ((image : Image) (count : ℕ) → images image → sent count → IsSo image count) → Through old new IsSo
 through_by old new images sent IsSo passes more = record {
   goes = goes_by old new images sent passes;
   here = λ time image low high left. more image (new.sent_by time) (passes.here time image low high left) (passes.sent_here time low high);
 }
 
 -- the same moments, in other words
-pub through_so : (old new : View) (IsSo AreSo : Image → ℕ → Type 0) → ((image : Image) (count : ℕ) → IsSo image count → AreSo image count) → Through old new IsSo → Through old new AreSo
+pub through_so : (old new : View) (IsSo AreSo : Image → ℕ → Type 0) → ((image : Image) (count : ℕ) → IsSo image count → AreSo image count)
+    → Through old new IsSo → Through old new AreSo
 through_so old new IsSo AreSo more through = record {
   goes = through.goes;
   here = λ time image low high left. more image (new.sent_by time) (through.here time image low high left);
 }
 
-pub since_so : (old new : View) (IsSo AreSo : Image → ℕ → Type 0) → ((image : Image) (count : ℕ) → IsSo image count → AreSo image count) → Since old new IsSo → Since old new AreSo
+pub since_so : (old new : View) (IsSo AreSo : Image → ℕ → Type 0) → ((image : Image) (count : ℕ) → IsSo image count → AreSo image count)
+    → Since old new IsSo → Since old new AreSo
 since_so old new IsSo AreSo more since = record {
   goes = since.goes;
   here = λ time image low high left. more image (new.sent_by time) (since.here time image low high left);
@@ -42,10 +45,14 @@ since_so old new IsSo AreSo more since = record {
 
 -- without the first of them
 pub since_later : (old new : View) (IsSo : Image → ℕ → Type 0) → Since old new IsSo → Through old new IsSo
-since_later old new IsSo since = record { goes = since.goes; here = λ time image low high left. since.here time image (omega (arith, low)) high left }
+since_later old new IsSo since = record {
+  goes = since.goes;
+  here = λ time image low high left. since.here time image (omega (arith, low)) high left;
+}
 
 -- what is so at a moment that later calls leave behind
-moved : (mid new : View) (IsSo : Image → ℕ → Type 0) → GoesOn mid new → (time : ℕ) (image : Image) → time ≤ mid.clock → IsSo image (mid.sent_by time) → IsSo image (new.sent_by time)
+moved : (mid new : View) (IsSo : Image → ℕ → Type 0) → GoesOn mid new → (time : ℕ) (image : Image) → time ≤ mid.clock
+    → IsSo image (mid.sent_by time) → IsSo image (new.sent_by time)
 moved mid new IsSo goes time image within is = let P : ℕ → Type 0 = λ n. IsSo image n in subst P (sym (goes.sent_past time within)) is
 
 -- moments, and then others

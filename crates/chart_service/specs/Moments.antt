@@ -21,7 +21,9 @@ pub record Through (old new : View) (IsSo : Image → ℕ → Type 0) : Type 0 w
   pub here : (at : ℕ) (image : Image) → old.clock < at → at ≤ new.clock → new.crash at image → IsSo image (new.sent_by at)
 
 -- no more bytes were sent than the text of the lines and the replies to the first of those done ahead from a state on
-pub record SendsReply (IsText : List (Option (List ℕ)) → List Frame → List ℕ → Type 0) (lines : List (Option (List ℕ))) (frames : List Frame) (text : List ℕ) (between : State) (ahead : List (Option (List ℕ))) (answers : List Frame) (from count : ℕ) : Type 0 where
+pub record SendsReply (IsText : List (Option (List ℕ)) → List Frame → List ℕ
+    → Type 0) (lines : List (Option (List ℕ))) (frames : List Frame) (text : List ℕ) (between : State) (ahead : List (Option (List ℕ)))
+    (answers : List Frame) (from count : ℕ) : Type 0 where
   pub first : FirstOf between ahead answers
   pub reply : List ℕ
   pub texts : IsText (lines ++ first.front) (frames ++ first.shown) (text ++ reply)
@@ -30,7 +32,9 @@ pub record SendsReply (IsText : List (Option (List ℕ)) → List Frame → List
 
 -- The lines behind the first ones, whose text was sent, are done ahead, and the image stands for the book after them. Of
 -- the replies to the first of them nothing was sent, or a part, or all of it; to the others nothing was.
-pub record DoesNext (IsText : List (Option (List ℕ)) → List Frame → List ℕ → Type 0) (given : ℕ) (lines : List (Option (List ℕ))) (frames : List Frame) (text rest : List ℕ) (total : ℕ) (between : State) (from : ℕ) (image : Image) (count : ℕ) : Type 0 where
+pub record DoesNext (IsText : List (Option (List ℕ)) → List Frame → List ℕ
+    → Type 0) (given : ℕ) (lines : List (Option (List ℕ))) (frames : List Frame) (text rest : List ℕ) (total : ℕ) (between : State)
+    (from : ℕ) (image : Image) (count : ℕ) : Type 0 where
   pub after : State
   pub next : AnswersNext given rest between after
   pub stands : StandsForBook image total after.book
@@ -39,7 +43,8 @@ pub record DoesNext (IsText : List (Option (List ℕ)) → List Frame → List �
 -- The text for some first lines was sent, after so many bytes. The image stands for the book that they leave, and no
 -- byte more was sent; or lines behind them are done ahead, the image stands for the book after those, and at most their
 -- replies were sent besides. So each edit whose reply was sent whole is in the book, and at most `most_ahead` others are.
-pub record IsAhead (IsText : List (Option (List ℕ)) → List Frame → List ℕ → Type 0) (input : List ℕ) (total : ℕ) (old : State) (from : ℕ) (image : Image) (count : ℕ) : Type 0 where
+pub record IsAhead (IsText : List (Option (List ℕ)) → List Frame → List ℕ
+    → Type 0) (input : List ℕ) (total : ℕ) (old : State) (from : ℕ) (image : Image) (count : ℕ) : Type 0 where
   pub front : List ℕ
   pub rest : List ℕ
   pub begins : BeginsWith input front rest

@@ -1,5 +1,6 @@
 -- The frames that a run gives name sessions that are open by the frames before them.
-use Rattle.std.specs.Prelude.{ℕ, ◌≡◌, ◌≢◌, ◌≤◌, Bool, List, [], ◌∷◌, ◌++◌, length, take, flat_map, All, Option, Result, Ok, Err, IfSome, OnOk, ⊤}
+use Rattle.std.specs.Prelude.{ℕ, ◌≡◌, ◌≢◌, ◌≤◌, Bool, List, [], ◌∷◌, ◌++◌, length, take, flat_map, All, Option, Result, Ok, Err, IfSome}
+use Rattle.std.specs.Prelude.{OnOk, ⊤}
 use Rattle.block_disk.specs.Streams.{sent_after}
 use Rattle.chart_frames.specs.declared.frame.Frame.{Frame}
 use Rattle.chart_frames.specs.declared.frame.Frame.TheVariants.{Done, Refused, Opened, Closed, View, Rows, Live, Report}
@@ -51,7 +52,8 @@ NameOpened frames = (front behind : List Frame) (frame : Frame) → frames ≡ f
 
 -- Such frames were given to these lines one after the other, each of which may answer its line and has fields that meet their
 -- rules: their bytes were made and sent, and the sessions that are open now are so by the frames.
-pub record Gives {S F : Type 0} (makes : Makes S F) (lines : List (Option (List ℕ))) (kept last : S) (was now_open : ℕ → Bool) (before now : Option (List ℕ)) : Type 0 where
+pub record Gives {S F : Type 0} (makes : Makes S F) (lines : List (Option (List ℕ))) (kept last : S) (was now_open : ℕ
+    → Bool) (before now : Option (List ℕ)) : Type 0 where
   pub frames : List Frame
   pub fits : All Fits frames
   pub answers : MayAnswerAll lines frames
@@ -65,15 +67,18 @@ pub record Gives {S F : Type 0} (makes : Makes S F) (lines : List (Option (List 
 -- or nothing more was sent
 abbrev pub StopsBehind : {S F : Type 0} → Makes S F → S → S → (ℕ → Bool) → Option (List ℕ) → Option (List ℕ) → AnswerEnd F → Type 0
 StopsBehind makes last kept was sent now (Serve ReadFault) = (kept ≡ last) × (now ≡ sent)
-StopsBehind makes last kept was sent now (Serve SendFault) = (frame : Frame) × Fits frame × NamesKnown frame was × FrameStops makes frame last kept sent now (Serve SendFault)
+StopsBehind makes last kept was sent now (Serve SendFault) = (frame : Frame) × Fits frame × NamesKnown frame was
+    × FrameStops makes frame last kept sent now (Serve SendFault)
 StopsBehind makes last kept was sent now (Serve DiskFault) = (kept ≡ last) × (now ≡ sent)
 StopsBehind makes last kept was sent now (Serve (Damaged page)) = (kept ≡ last) × (now ≡ sent)
 StopsBehind makes last kept was sent now (Serve InputTooLong) = (kept ≡ last) × (now ≡ sent)
 StopsBehind makes last kept was sent now (Serve NoMemory) = (kept ≡ last) × (now ≡ sent)
-StopsBehind makes last kept was sent now (Reply e) = (frame : Frame) × Fits frame × NamesKnown frame was × FrameStops makes frame last kept sent now (Reply e)
+StopsBehind makes last kept was sent now (Reply e) = (frame : Frame) × Fits frame × NamesKnown frame was
+    × FrameStops makes frame last kept sent now (Reply e)
 
 -- such frames were given to some lines, and it stopped behind them
-pub record GivesFirst {S F : Type 0} (makes : Makes S F) (kept kept' : S) (was : ℕ → Bool) (before now : Option (List ℕ)) (end : AnswerEnd F) : Type 0 where
+pub record GivesFirst {S F : Type 0} (makes : Makes S F) (kept kept' : S) (was : ℕ
+    → Bool) (before now : Option (List ℕ)) (end : AnswerEnd F) : Type 0 where
   pub lines : List (Option (List ℕ))
   pub last : S
   pub now_open : ℕ → Bool
@@ -82,13 +87,16 @@ pub record GivesFirst {S F : Type 0} (makes : Makes S F) (kept kept' : S) (was :
   pub stops : StopsBehind makes last kept' now_open sent now end
 
 -- all were given, or some first
-abbrev pub GivesBy : {T S F : Type 0} → Makes S F → List (Option (List ℕ)) → S → S → List Session → List Session → Option (List ℕ) → Option (List ℕ) → Result T (AnswerEnd F) → Type 0
+abbrev pub GivesBy : {T S F : Type 0} → Makes S F → List (Option (List ℕ)) → S → S → List Session → List Session → Option (List ℕ)
+    → Option (List ℕ) → Result T (AnswerEnd F) → Type 0
 GivesBy makes lines kept kept' sessions sessions' before now (Ok done) =
     Gives makes lines kept kept' (λ n. is_open n sessions) (λ n. is_open n sessions') before now
-GivesBy makes lines kept kept' sessions sessions' before now (Err end) = GivesFirst makes kept kept' (λ n. is_open n sessions) before now end
+GivesBy makes lines kept kept' sessions sessions' before now (Err end) = GivesFirst makes kept kept'
+    (λ n. is_open n sessions) before now end
 
 -- the same of the lines of an input, where it is told: of all of them where all were given
-pub record GivesTold {T S F : Type 0} (makes : Makes S F) (input : Option (List ℕ)) (kept kept' : S) (sessions sessions' : List Session) (before now : Option (List ℕ)) (result : Result T (AnswerEnd F)) : Type 0 where
+pub record GivesTold {T S F : Type 0} (makes : Makes S F) (input : Option (List ℕ)) (kept kept' : S) (sessions sessions' : List Session)
+    (before now : Option (List ℕ)) (result : Result T (AnswerEnd F)) : Type 0 where
   pub lines : List (Option (List ℕ))
   pub gives : GivesBy makes lines kept kept' sessions sessions' before now result
   pub are_told : OnOk result (IfSome input (λ bytes. lines ≡ told bytes))

@@ -36,7 +36,8 @@ use Rattle.zoom_session.specs.Plans.{PlansIn, IsTooMany, CountsNeeded}
 use Rattle.zoom_session.specs.Planned.{IsInBounds}
 use Rattle.chart_frames.specs.Frames.{IsRange}
 use Rattle.chart_frames.specs.declared.frame.ViewFrame.{ViewFrame}
-use Rattle.chart_service.specs.Viewing.{ShowsRange, AreNeeded, axis_of, kept_of, range_spec, has_of, least_of, greatest_of, IsGoodRange, IsBadRange}
+use Rattle.chart_service.specs.Viewing.{ShowsRange, AreNeeded, axis_of, kept_of, range_spec, has_of, least_of, greatest_of, IsGoodRange}
+use Rattle.chart_service.specs.Viewing.{IsBadRange}
 use Rattle.chart_service.specs.declared.viewport.Viewport.{Viewport}
 use Rattle.chart_service.specs.declared.shown_rows.ShownRows.{ShownRows}
 use Rattle.chart_service.specs.declared.shown.Told.{Told}

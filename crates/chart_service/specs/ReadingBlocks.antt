@@ -33,7 +33,8 @@ ReadsInTurn old [] [] new from to = (new ≡ old) × (to ≡ from)
 ReadsInTurn old [] (frame ∷ frames) new from to = ⊥
 ReadsInTurn old (line ∷ later) [] new from to = ⊥
 ReadsInTurn old (line ∷ later) (frame ∷ frames) new from to =
-    (between : State) × (count : ℕ) × Replied line frame old between × ReadsLine line old from count × ReadsInTurn between later frames new count to
+    (between : State) × (count : ℕ) × Replied line frame old between × ReadsLine line old from count
+    × ReadsInTurn between later frames new count to
 
 -- edits that stand first in these bytes read at most 96 blocks each; they may not have been answered
 pub record ReadsAhead (bytes : List ℕ) (from to : ℕ) : Type 0 where

@@ -1,8 +1,10 @@
 -- The reply to a request line, and the state after it, over the plain book alone.
-use Rattle.std.specs.Prelude.{◌≡◌, ◌⊎◌, ℕ, ℤ, ◌+ℤ◌, ◌<◌, ◌++◌, [], ◌∷◌, Bool, true, false, List, length, Option, None, Some, Result, Ok, Err, slice_get, nat_lt, if◌then◌else◌}
+use Rattle.std.specs.Prelude.{◌≡◌, ◌⊎◌, ℕ, ℤ, ◌+ℤ◌, ◌<◌, ◌++◌, [], ◌∷◌, Bool, true, false, List, length, Option, None, Some, Result, Ok}
+use Rattle.std.specs.Prelude.{Err, slice_get, nat_lt, if◌then◌else◌}
 use Rattle.series_book.specs.declared.one_series.Series.{Series}
 use Rattle.series_book.specs.declared.refusals.Refusal.{Refusal}
-use Rattle.series_book.specs.declared.refusals.Refusal.TheVariants.{LineTooLong, BadLine, BadFilter, UnknownSession, UnknownSeries, NoView, BadWindow, BadCanvas, BadRange, ViewTooLarge}
+use Rattle.series_book.specs.declared.refusals.Refusal.TheVariants.{LineTooLong, BadLine, BadFilter, UnknownSession, UnknownSeries, NoView}
+use Rattle.series_book.specs.declared.refusals.Refusal.TheVariants.{BadWindow, BadCanvas, BadRange, ViewTooLarge}
 use Rattle.series_book.specs.Refusals.{number_of, pair_of}
 use Rattle.series_book.specs.Edits.{Edited, apply, id_of}
 use Rattle.request_lines.specs.declared.requests.Request.{Request}
@@ -81,7 +83,8 @@ abbrev pub AnswersView : Series → ViewSpec → ℕ → Frame → State → Sta
 AnswersView series spec number answer old new = AnswersBy spec.filter series spec number answer old new
 
 -- the reply to a view of the series of this id, over a window and on a canvas that are in range
-pub record Views (series : Series) (id number w h : ℕ) (t0 t1 : ℤ) (range : RangeSpec) (filter : Option (List Step)) (answer : Frame) (old new : State) : Type 0 where
+pub record Views (series : Series) (id number w h : ℕ) (t0 t1 : ℤ) (range : RangeSpec) (filter : Option (List Step)) (answer : Frame)
+    (old new : State) : Type 0 where
   pub grid : Grid
   pub window : ShowsWindow grid t0 t1
   pub canvas : HasCanvas grid w h
@@ -105,7 +108,8 @@ ViewsId (Some id) number w h t0 t1 word filter answer old new =
 -- the reply to a view with this filter
 abbrev pub RepliesToView : Bool → ℕ → List ℕ → ℕ → ℕ → ℤ → ℤ → RangeWord → Option (List Step) → Frame → State → State → Type 0
 RepliesToView false number name w h t0 t1 word filter answer old new = Refuses UnknownSession answer old new
-RepliesToView true number name w h t0 t1 word filter answer old new = ViewsId (id_of name old.book) number w h t0 t1 word filter answer old new
+RepliesToView true number name w h t0 t1 word filter answer old new = ViewsId
+    (id_of name old.book) number w h t0 t1 word filter answer old new
 
 -- The reply to a view by its filter's text, where the view has one: a text that spells no filter is refused at the
 -- offset at which it leaves the grammar; else the reply is that to the view with the filter, kept as its steps.
@@ -137,7 +141,8 @@ Replies (EditRequest edit) answer old new = Edits (apply old.book old.total edit
 Replies (Open number cache) answer old new =
     Opens (open_refusal old.sessions number (cache_of cache)) number (cache_of cache) answer old new
 Replies (View number name w h t0 t1 word text) answer old new =
-    RepliesByText text (λ filter. RepliesToView (is_open number old.sessions) number name w h t0 t1 word filter answer old new) answer old new
+    RepliesByText text (λ filter. RepliesToView (is_open number old.sessions) number name w h t0 t1 word filter answer old new) answer old
+    new
 Replies (Zoom number t0 t1) answer old new = MovesIn (session_of number old.sessions) number (λ last. (t0, t1)) answer old new
 Replies (Pan number by) answer old new =
     MovesIn (session_of number old.sessions) number (λ last. (last.grid.t0 +ℤ by, last.grid.t1 +ℤ by)) answer old new

@@ -37,7 +37,8 @@ abbrev pub RepliesToAll : State → List (Option (List ℕ)) → List Frame → 
 RepliesToAll old [] [] new = new ≡ old
 RepliesToAll old [] (frame ∷ frames) new = ⊥
 RepliesToAll old (line ∷ later) [] new = ⊥
-RepliesToAll old (line ∷ later) (frame ∷ frames) new = (between : State) × Replied line frame old between × RepliesToAll between later frames new
+RepliesToAll old (line ∷ later) (frame ∷ frames) new = (between : State) × Replied line frame old between
+    × RepliesToAll between later frames new
 
 -- The text is what IsText says of the lines of these bytes and the frames that answer them, from the
 -- state old on, and new is the state behind them.
@@ -47,13 +48,15 @@ pub record Answers (IsText : List (Option (List ℕ)) → List Frame → List �
   pub texts : IsText (told bytes) frames text
 
 -- the text for the whole input was sent
-pub record SendsText (IsText : List (Option (List ℕ)) → List Frame → List ℕ → Type 0) (input : List ℕ) (old new : State) (before now : Option (List ℕ)) : Type 0 where
+pub record SendsText (IsText : List (Option (List ℕ)) → List Frame → List ℕ
+    → Type 0) (input : List ℕ) (old new : State) (before now : Option (List ℕ)) : Type 0 where
   pub text : List ℕ
   pub answers : Answers IsText input text old new
   pub sent : now ≡ sent_after text before
 
 -- the text for the first lines of the input was sent, and this stands behind them
-pub record SendsFirst (IsText : List (Option (List ℕ)) → List Frame → List ℕ → Type 0) (input rest : List ℕ) (old new : State) (before now : Option (List ℕ)) : Type 0 where
+pub record SendsFirst (IsText : List (Option (List ℕ)) → List Frame → List ℕ
+    → Type 0) (input rest : List ℕ) (old new : State) (before now : Option (List ℕ)) : Type 0 where
   pub front : List ℕ
   pub begins : BeginsWith input front rest
   pub early : length front ≤ 2 ^ 32
@@ -62,7 +65,8 @@ pub record SendsFirst (IsText : List (Option (List ℕ)) → List Frame → List
   pub sent : now ≡ sent_after text before
 
 -- all lines whose line feeds were among the bytes taken were answered and no other, and these bytes are left
-pub record SendsTaken (IsText : List (Option (List ℕ)) → List Frame → List ℕ → Type 0) (input before_left : List ℕ) (old new : State) (before now : Option (List ℕ)) : Type 0 where
+pub record SendsTaken (IsText : List (Option (List ℕ)) → List Frame → List ℕ
+    → Type 0) (input before_left : List ℕ) (old new : State) (before now : Option (List ℕ)) : Type 0 where
   pub rest : List ℕ
   pub first : SendsFirst IsText input rest old new before now
   pub whole : IsWhole first.front
@@ -71,7 +75,8 @@ pub record SendsTaken (IsText : List (Option (List ℕ)) → List Frame → List
   pub unended : NoLineFeed partial
 
 -- the lines that ended among the first 2^32 bytes were answered, all and no other, and there is a byte more
-pub record SendsWithin (IsText : List (Option (List ℕ)) → List Frame → List ℕ → Type 0) (input : List ℕ) (old new : State) (before now : Option (List ℕ)) : Type 0 where
+pub record SendsWithin (IsText : List (Option (List ℕ)) → List Frame → List ℕ
+    → Type 0) (input : List ℕ) (old new : State) (before now : Option (List ℕ)) : Type 0 where
   pub rest : List ℕ
   pub first : SendsFirst IsText input rest old new before now
   pub few : length first.front ≤ 2 ^ 32
@@ -96,7 +101,8 @@ pub record AnswersNext (given : ℕ) (bytes : List ℕ) (old new : State) : Type
 
 -- The text for some first lines was sent. The book is as they left it, or as the lines behind them did
 -- that were done ahead, whose answers weren't sent.
-pub record SendsSome (IsText : List (Option (List ℕ)) → List Frame → List ℕ → Type 0) (input : List ℕ) (old new : State) (before now : Option (List ℕ)) : Type 0 where
+pub record SendsSome (IsText : List (Option (List ℕ)) → List Frame → List ℕ
+    → Type 0) (input : List ℕ) (old new : State) (before now : Option (List ℕ)) : Type 0 where
   pub rest : List ℕ
   pub between : State
   pub first : SendsFirst IsText input rest old between before now
@@ -104,7 +110,8 @@ pub record SendsSome (IsText : List (Option (List ℕ)) → List Frame → List 
 
 -- The first bytes of the text for the first lines were sent. This stands behind those, or behind more lines that were done
 -- ahead, for which nothing was sent.
-pub record SendsFrontOf (IsText : List (Option (List ℕ)) → List Frame → List ℕ → Type 0) (input : List ℕ) (old new : State) (before now : Option (List ℕ)) : Type 0 where
+pub record SendsFrontOf (IsText : List (Option (List ℕ)) → List Frame → List ℕ
+    → Type 0) (input : List ℕ) (old new : State) (before now : Option (List ℕ)) : Type 0 where
   pub front : List ℕ
   pub rest : List ℕ
   pub begins : BeginsWith input front rest
@@ -122,7 +129,8 @@ abbrev pub AreSpelled : List (Option (List ℕ)) → List Frame → List ℕ →
 AreSpelled lines frames text = text ≡ flat_map spelling frames
 
 -- some first lines were answered, and their text was sent
-pub record SendsLines (IsText : List (Option (List ℕ)) → List Frame → List ℕ → Type 0) (input : List ℕ) (old : State) (before now : Option (List ℕ)) : Type 0 where
+pub record SendsLines (IsText : List (Option (List ℕ)) → List Frame → List ℕ
+    → Type 0) (input : List ℕ) (old : State) (before now : Option (List ℕ)) : Type 0 where
   pub rest : List ℕ
   pub between : State
   pub first : SendsFirst IsText input rest old between before now

@@ -89,11 +89,14 @@ module _ {P : Type 0} {g : Ghosts P} where
   pub keeps_none : {so : Type 0} (at : Service P g) → so → Keeps so at at
   keeps_none {so} at are = sessions_none (stored.Keeps so at.store at.store) at.sessions (stored.keeps_none at.store are)
 
-  pub keeps_then : {one two both : Type 0} (old between new : Service P g) → (one → two → both) → Keeps one old between → Keeps two between new → Keeps both old new
+  pub keeps_then : {one two both : Type 0} (old between new : Service P g) → (one → two → both) → Keeps one old between
+      → Keeps two between new → Keeps both old new
   keeps_then {one} {two} {both} old between new join first second =
-      sessions_then (stored.Keeps one old.store between.store) (stored.Keeps two between.store new.store) (stored.Keeps both old.store new.store) old.sessions between.sessions new.sessions
+      sessions_then (stored.Keeps one old.store between.store) (stored.Keeps two between.store new.store)
+      (stored.Keeps both old.store new.store) old.sessions between.sessions new.sessions
       (stored.keeps_then old.store between.store new.store join) first second
 
   pub keeps_so : {one two : Type 0} (old new : Service P g) → (one → two) → Keeps one old new → Keeps two old new
   keeps_so {one} {two} old new more keeps =
-      sessions_so (stored.Keeps one old.store new.store) (stored.Keeps two old.store new.store) old.sessions new.sessions (stored.keeps_so old.store new.store more) keeps
+      sessions_so (stored.Keeps one old.store new.store) (stored.Keeps two old.store new.store) old.sessions new.sessions
+      (stored.keeps_so old.store new.store more) keeps

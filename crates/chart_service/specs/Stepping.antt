@@ -1,5 +1,6 @@
 -- What a step does: over the book that the pages of the store stand for, and to these pages.
-use Rattle.std.specs.Prelude.{ℕ, ℤ, ◌≡◌, ◌+◌, ◌+ℤ◌, ◌≤◌, ◌<◌, ◌⊎◌, List, length, Option, None, Some, Result, Ok, Err, IsSomeAnd, MatchOption, slice_get, ⊤}
+use Rattle.std.specs.Prelude.{ℕ, ℤ, ◌≡◌, ◌+◌, ◌+ℤ◌, ◌≤◌, ◌<◌, ◌⊎◌, List, length, Option, None, Some, Result, Ok, Err, IsSomeAnd}
+use Rattle.std.specs.Prelude.{MatchOption, slice_get, ⊤}
 use Rattle.block_disk.specs.Counts.{HasRisen}
 use Rattle.block_disk.specs.View.{Image, View, Rises}
 use Rattle.chart_frames.specs.declared.frame.Frame.{Frame}
@@ -44,7 +45,8 @@ abbrev pub RepliedTo : Request → Frame → State → State → Type 0
 RepliedTo request answer old new = Replies request answer old new × Fits answer × IsSound new
 
 -- the pages stand for the book that an answer leaves
-pub record IsAfterReply (Reply : Frame → State → State → Type 0) (total : ℕ) (book : List Series) (sessions : List Session) (image : Image) : Type 0 where
+pub record IsAfterReply (Reply : Frame → State → State
+    → Type 0) (total : ℕ) (book : List Series) (sessions : List Session) (image : Image) : Type 0 where
   pub frame : Frame
   pub left : List Session
   pub after : StandsAfter total image left (λ new. Reply frame (state_of book total sessions) new)
@@ -178,13 +180,15 @@ ReadsByText (Some text) w t0 t1 series old new = ReadsRows t0 t1 series old new
 -- and of a session's last view over another window
 abbrev pub ReadsLast : List Series → Option ViewSpec → (ViewSpec → ℤ × ℤ) → ℕ → ℕ → Type 0
 ReadsLast book None window old new = new ≡ old
-ReadsLast book (Some last) window old new = ReadsBy last.filter last.grid.w (window last).0 (window last).1 (slice_get book last.series) old new
+ReadsLast book (Some last) window old new = ReadsBy last.filter last.grid.w (window last).0 (window last).1
+    (slice_get book last.series) old new
 
 -- how many blocks an answer reads at most, refused or not
 abbrev pub ReadsFew : Request → List Series → List Session → ℕ → ℕ → Type 0
 ReadsFew (EditRequest edit) book sessions old new = new ≤ old + 96
 ReadsFew (Open number cache) book sessions old new = new ≡ old
-ReadsFew (ViewRequest number name w h t0 t1 word text) book sessions old new = ReadsByText text w t0 t1 (series_at book (id_of name book)) old new
+ReadsFew (ViewRequest number name w h t0 t1 word text) book sessions old new = ReadsByText text w t0 t1
+    (series_at book (id_of name book)) old new
 ReadsFew (Zoom number t0 t1) book sessions old new = ReadsLast book (last_of (session_of number sessions)) (λ last. (t0, t1)) old new
 ReadsFew (Pan number by) book sessions old new =
     ReadsLast book (last_of (session_of number sessions)) (λ last. (last.grid.t0 +ℤ by, last.grid.t1 +ℤ by)) old new

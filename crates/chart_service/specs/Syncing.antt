@@ -55,5 +55,6 @@ pub record SyncsLines (input : List ℕ) (total : ℕ) (book : List Series) (pie
 -- what some first lines of an input may sync, the whole input may
 abbrev pub FirstLinesSyncLess : Type 0
 FirstLinesSyncLess =
-    (input : List ℕ) (total : ℕ) (book : List Series) (pieces from to others : ℕ) → SyncsLines input total book pieces from to → length (lines input) ≡ others + length (edits_of (lines input))
+    (input : List ℕ) (total : ℕ) (book : List Series) (pieces from to others : ℕ) → SyncsLines input total book pieces from to
+    → length (lines input) ≡ others + length (edits_of (lines input))
     → to ≤ from + most_syncs total book (edits_of (lines input)) others pieces

@@ -54,7 +54,8 @@ impl<P: Pages> Service<P> {
         ensures quiet_err { IfErr result (λ e. e ≢ ServiceError.DiskFault → (shown.view self.new).faults ≡ (shown.view self.old).faults) }
         ensures stays { StaysIn number result self.old.sessions self.new.sessions }
         ensures tells { FitsIn number spec self.old.sessions → IfOk result (TellsIn number) }
-        ensures rooms { FitsIn number spec self.old.sessions → HasRoom self.old.sessions number → OnOk result (HasRoom self.new.sessions number) }
+        ensures rooms { FitsIn number spec self.old.sessions → HasRoom self.old.sessions number
+            → OnOk result (HasRoom self.new.sessions number) }
     {
         let shown = match self.rows(&spec) {
             Ok(shown) => shown,
@@ -72,13 +73,17 @@ impl<P: Pages> Service<P> {
     fn rows(&mut self, spec: &ViewSpec) -> Result<ShownRows, ScanError>
         requires sound { (shown.view self.old).fit }
         requires view { IsViewIn (length (shown.catalog self.old)) spec.now }
-        ensures shown { shown.ForBook self.old (λ total book. IsSomeAnd (slice_get book spec.now.series) (λ series. ShowsOrStops series spec.now result)) }
+        ensures shown { shown.ForBook self.old (λ total book. IsSomeAnd (slice_get book spec.now.series)
+            (λ series. ShowsOrStops series spec.now result)) }
         ensures fit { IfOk result (FitInFrame spec.now.grid.w) }
-        ensures cause { IfErr result (λ error. IsScanCause (λ id. id ≡ spec.now.series) error (shown.IsTold self.old) (shown.catalog self.old) (shown.total self.old) (shown.view self.old) (shown.view self.new)) }
+        ensures cause { IfErr result (λ error. IsScanCause (λ id. id ≡ spec.now.series) error (shown.IsTold self.old)
+            (shown.catalog self.old) (shown.total self.old) (shown.view self.old) (shown.view self.new)) }
         ensures looks { LooksOnly self.old self.new }
         ensures quiet { OnOk result ((shown.view self.new).faults ≡ (shown.view self.old).faults) }
-        ensures quiet_err { IfErr result (λ e. e ≢ ScanError.Node NodeError.DiskFault → (shown.view self.new).faults ≡ (shown.view self.old).faults) }
-        ensures reads { shown.ForBook self.old (λ total book. ReadsRows spec.now.grid.t0 spec.now.grid.t1 (slice_get book spec.now.series) (shown.view self.old).reads (shown.view self.new).reads) }
+        ensures quiet_err { IfErr result (λ e. e ≢ ScanError.Node NodeError.DiskFault
+            → (shown.view self.new).faults ≡ (shown.view self.old).faults) }
+        ensures reads { shown.ForBook self.old (λ total book. ReadsRows spec.now.grid.t0 spec.now.grid.t1 (slice_get book spec.now.series)
+            (shown.view self.old).reads (shown.view self.new).reads) }
         ensures sessions { self.new.sessions ≡ self.old.sessions }
     {
         let axis = selected(&mut self.store, spec.series);
@@ -105,7 +110,8 @@ impl<P: Pages> Service<P> {
         ensures quiet_err { IfErr result (λ e. e ≢ ServiceError.DiskFault → (shown.view self.new).faults ≡ (shown.view self.old).faults) }
         ensures stays { StaysIn number result self.old.sessions self.new.sessions }
         ensures tells { FitsIn number spec self.old.sessions → IfOk result (TellsIn number) }
-        ensures rooms { FitsIn number spec self.old.sessions → HasRoom self.old.sessions number → OnOk result (HasRoom self.new.sessions number) }
+        ensures rooms { FitsIn number spec self.old.sessions → HasRoom self.old.sessions number
+            → OnOk result (HasRoom self.new.sessions number) }
     {
         let planned = match self.plan(number, &spec) {
             Ok(planned) => planned,
@@ -132,13 +138,17 @@ impl<P: Pages> Service<P> {
         requires opened { IsTrue (is_open number self.old.sessions) }
         requires view { IsViewIn (length (shown.catalog self.old)) spec.now }
         requires unfiltered { spec.now.filter ≡ None }
-        ensures planned { shown.ForBook self.old (λ total book. IsSomeAnd (slice_get book spec.now.series) (λ series. PlansOrStops series spec.now (session_of number self.old.sessions) result)) }
+        ensures planned { shown.ForBook self.old (λ total book. IsSomeAnd (slice_get book spec.now.series)
+            (λ series. PlansOrStops series spec.now (session_of number self.old.sessions) result)) }
         ensures good { IfOk result IsGoodPlan }
-        ensures cause { IfErr result (λ error. IsPlanCause (λ id. id ≡ spec.now.series) error (shown.IsTold self.old) (shown.catalog self.old) (shown.total self.old) (shown.view self.old) (shown.view self.new)) }
+        ensures cause { IfErr result (λ error. IsPlanCause (λ id. id ≡ spec.now.series) error (shown.IsTold self.old)
+            (shown.catalog self.old) (shown.total self.old) (shown.view self.old) (shown.view self.new)) }
         ensures looks { LooksOnly self.old self.new }
         ensures quiet { OnOk result ((shown.view self.new).faults ≡ (shown.view self.old).faults) }
-        ensures quiet_err { IfErr result (λ e. e ≢ PlanError.Node NodeError.DiskFault → (shown.view self.new).faults ≡ (shown.view self.old).faults) }
-        ensures reads { shown.ForBook self.old (λ total book. ReadsFor spec.now.grid.w (slice_get book spec.now.series) (shown.view self.old).reads (shown.view self.new).reads) }
+        ensures quiet_err { IfErr result (λ e. e ≢ PlanError.Node NodeError.DiskFault
+            → (shown.view self.new).faults ≡ (shown.view self.old).faults) }
+        ensures reads { shown.ForBook self.old (λ total book. ReadsFor spec.now.grid.w (slice_get book spec.now.series)
+            (shown.view self.old).reads (shown.view self.new).reads) }
         ensures sessions { self.new.sessions ≡ self.old.sessions }
         ensures few { spec.now.series < 512 }
         ensures large { IfErr result (IsShortFor (session_of number self.old.sessions) spec.now.grid.w) }

@@ -39,20 +39,31 @@ pub fn answer_edits<P: PageWorld, S, F, R: Reply<S, F>>(
     requires some { 0 < length edits.now }
     requires few { length edits.now ≤ most_ahead }
     requires are_edits { All IsEdit edits.now }
-    ensures done { SpelledBy edits.now (λ lines. shown.ForBook service.old (λ total book. OnOk result (AnswersOn P.sent R.makes lines kept.old kept.new total book service.old service.new))) }
-    ensures stops { SpelledBy edits.now (λ lines. shown.ForBook service.old (λ total book. IfErr result (StopsOn P.sent R.makes lines kept.old kept.new total book service.old service.new))) }
-    ensures moments { SpelledBy edits.now (λ lines. shown.ForBook service.old (λ total book. LeavesTold P.sent R.makes kept.old lines total book service.old service.new)) }
-    ensures reads { shown.ForBook service.old (λ total book. (shown.view service.new).reads ≤ (shown.view service.old).reads + 96 * length edits.now) }
+    ensures done { SpelledBy edits.now (λ lines. shown.ForBook service.old
+        (λ total book. OnOk result (AnswersOn P.sent R.makes lines kept.old kept.new total book service.old service.new))) }
+    ensures stops { SpelledBy edits.now (λ lines. shown.ForBook service.old
+        (λ total book. IfErr result (StopsOn P.sent R.makes lines kept.old kept.new total book service.old service.new))) }
+    ensures moments { SpelledBy edits.now (λ lines. shown.ForBook service.old
+        (λ total book. LeavesTold P.sent R.makes kept.old lines total book service.old service.new)) }
+    ensures reads { shown.ForBook service.old (λ total book.
+        (shown.view service.new).reads ≤ (shown.view service.old).reads + 96 * length edits.now) }
     ensures rises { (shown.view service.old).reads ≤ (shown.view service.new).reads }
-    ensures syncs { shown.ForBook service.old (λ total book. (shown.view service.new).syncs ≤ (shown.view service.old).syncs + group_syncs total book edits.now) }
-    ensures behind { shown.ForBook service.old (λ total book. OnOk result (StandsForBook (shown.image service.new) total (after_edits total book edits.now))) }
-    ensures known { (knows : S → ℕ → Bool) → Follows R.makes knows → KnowsOpen knows kept.old service.old.sessions → OnOk result (KnowsOpen knows kept.new service.new.sessions) }
-    ensures named { (knows : S → ℕ → Bool) → Follows R.makes knows → KnowsOpen knows kept.old service.old.sessions → IfErr result (EndsKnown R.makes knows) }
-    ensures gives { SpelledBy edits.now (λ lines. GivesBy R.makes lines kept.old kept.new service.old.sessions service.new.sessions (P.sent (shown.pages service.old)) (P.sent (shown.pages service.new)) result) }
+    ensures syncs { shown.ForBook service.old (λ total book.
+        (shown.view service.new).syncs ≤ (shown.view service.old).syncs + group_syncs total book edits.now) }
+    ensures behind { shown.ForBook service.old (λ total book. OnOk result
+        (StandsForBook (shown.image service.new) total (after_edits total book edits.now))) }
+    ensures known { (knows : S → ℕ → Bool) → Follows R.makes knows → KnowsOpen knows kept.old service.old.sessions
+        → OnOk result (KnowsOpen knows kept.new service.new.sessions) }
+    ensures named { (knows : S → ℕ → Bool) → Follows R.makes knows → KnowsOpen knows kept.old service.old.sessions
+        → IfErr result (EndsKnown R.makes knows) }
+    ensures gives { SpelledBy edits.now (λ lines. GivesBy R.makes lines kept.old kept.new service.old.sessions service.new.sessions
+        (P.sent (shown.pages service.old)) (P.sent (shown.pages service.new)) result) }
     // a page is called damaged by one of the lines
     ensures blames { SpelledBy edits.now (λ lines. BlamesSo P.sent R.makes lines kept.old kept.new service.old service.new result) }
-    ensures send { result ≡ Err (AnswerEnd.Serve ServeEnd.SendFault) → HasRisen (P.send_faults (shown.pages service.old)) (P.send_faults (shown.pages service.new)) }
-    ensures disk { result ≡ Err (AnswerEnd.Serve ServeEnd.DiskFault) → HasRisen (shown.view service.old).faults (shown.view service.new).faults }
+    ensures send { result ≡ Err (AnswerEnd.Serve ServeEnd.SendFault)
+        → HasRisen (P.send_faults (shown.pages service.old)) (P.send_faults (shown.pages service.new)) }
+    ensures disk { result ≡ Err (AnswerEnd.Serve ServeEnd.DiskFault)
+        → HasRisen (shown.view service.old).faults (shown.view service.new).faults }
     ensures faults { CountsFault (fault_in answer_fault result) (shown.view service.old) (shown.view service.new) }
     ensures read { result ≢ Err (AnswerEnd.Serve ServeEnd.ReadFault) }
     ensures long { result ≢ Err (AnswerEnd.Serve ServeEnd.InputTooLong) }
@@ -79,16 +90,23 @@ fn send_replies<P: PageWorld, S, F, R: Reply<S, F>>(
 ) -> Result<(), AnswerEnd<F>>
     requires fits { All Fits frames.now }
     requires replies { All IsEditReply frames.now }
-    ensures done { OnOk result (FramesSent R.makes frames.now kept.old kept.new (P.sent (shown.pages service.old)) (P.sent (shown.pages service.new))) }
-    ensures stops { IfErr result (FramesCut R.makes frames.now kept.old kept.new (P.sent (shown.pages service.old)) (P.sent (shown.pages service.new))) }
+    ensures done { OnOk result (FramesSent R.makes frames.now kept.old kept.new (P.sent (shown.pages service.old))
+        (P.sent (shown.pages service.new))) }
+    ensures stops { IfErr result (FramesCut R.makes frames.now kept.old kept.new (P.sent (shown.pages service.old))
+        (P.sent (shown.pages service.new))) }
     // a crash leaves what it might have left before
-    ensures moments { IfSome (P.sent (shown.pages service.old)) (λ _. FramesMoments R.makes kept.old frames.now (shown.view service.old) (shown.view service.new)) }
-    ensures known { (knows : S → ℕ → Bool) → Follows R.makes knows → KnowsOpen knows kept.old service.old.sessions → OnOk result (KnowsOpen knows kept.new service.new.sessions) }
-    ensures named { (knows : S → ℕ → Bool) → Follows R.makes knows → KnowsOpen knows kept.old service.old.sessions → IfErr result (EndsKnown R.makes knows) }
+    ensures moments { IfSome (P.sent (shown.pages service.old))
+        (λ _. FramesMoments R.makes kept.old frames.now (shown.view service.old) (shown.view service.new)) }
+    ensures known { (knows : S → ℕ → Bool) → Follows R.makes knows → KnowsOpen knows kept.old service.old.sessions
+        → OnOk result (KnowsOpen knows kept.new service.new.sessions) }
+    ensures named { (knows : S → ℕ → Bool) → Follows R.makes knows → KnowsOpen knows kept.old service.old.sessions
+        → IfErr result (EndsKnown R.makes knows) }
     ensures ends { IfErr result IsReplyEnd }
-    ensures send { result ≡ Err (AnswerEnd.Serve ServeEnd.SendFault) → HasRisen (P.send_faults (shown.pages service.old)) (P.send_faults (shown.pages service.new)) }
+    ensures send { result ≡ Err (AnswerEnd.Serve ServeEnd.SendFault)
+        → HasRisen (P.send_faults (shown.pages service.old)) (P.send_faults (shown.pages service.new)) }
     ensures faults { CountsFault (fault_in answer_fault result) (shown.view service.old) (shown.view service.new) }
-    ensures keeps { KeepsPages (shown.IsTold service.old) (shown.IsTold service.new) (shown.view service.old) (shown.view service.new) (shown.under service.old) (shown.under service.new) }
+    ensures keeps { KeepsPages (shown.IsTold service.old) (shown.IsTold service.new) (shown.view service.old) (shown.view service.new)
+        (shown.under service.old) (shown.under service.new) }
     ensures total { shown.total service.new ≡ shown.total service.old }
     ensures sessions { service.new.sessions ≡ service.old.sessions }
     ensures left { P.left (shown.pages service.new) ≡ P.left (shown.pages service.old) }
@@ -114,17 +132,26 @@ pub fn answer_line<P: PageWorld, S, F, R: Reply<S, F>>(
 ) -> Result<(), AnswerEnd<F>>
     requires sound { (shown.view service.old).fit }
     requires short { length line.now ≤ 8192 }
-    ensures done { shown.ForBook service.old (λ total book. OnOk result (AnswersOn P.sent R.makes (unless_empty (Some line.now)) kept.old kept.new total book service.old service.new)) }
-    ensures stops { shown.ForBook service.old (λ total book. IfErr result (StopsOn P.sent R.makes (unless_empty (Some line.now)) kept.old kept.new total book service.old service.new)) }
-    ensures moments { shown.ForBook service.old (λ total book. LeavesBy R.makes kept.old (unless_empty (Some line.now)) total book service.old service.new) }
-    ensures reads { shown.ForBook service.old (λ total book. ReadsAsFirst (unless_empty (Some line.now)) total book service.old service.new) }
+    ensures done { shown.ForBook service.old (λ total book. OnOk result
+        (AnswersOn P.sent R.makes (unless_empty (Some line.now)) kept.old kept.new total book service.old service.new)) }
+    ensures stops { shown.ForBook service.old (λ total book. IfErr result
+        (StopsOn P.sent R.makes (unless_empty (Some line.now)) kept.old kept.new total book service.old service.new)) }
+    ensures moments { shown.ForBook service.old (λ total book. LeavesBy R.makes kept.old
+        (unless_empty (Some line.now)) total book service.old service.new) }
+    ensures reads { shown.ForBook service.old (λ total book. ReadsAsFirst
+        (unless_empty (Some line.now)) total book service.old service.new) }
     ensures idle { edit_of (Some line.now) ≡ [] → IsUnchanged (shown.IsTold service.old) (shown.view service.old) (shown.view service.new) }
-    ensures known { (knows : S → ℕ → Bool) → Follows R.makes knows → KnowsOpen knows kept.old service.old.sessions → OnOk result (KnowsOpen knows kept.new service.new.sessions) }
-    ensures named { (knows : S → ℕ → Bool) → Follows R.makes knows → KnowsOpen knows kept.old service.old.sessions → IfErr result (EndsKnown R.makes knows) }
-    ensures gives { GivesBy R.makes (unless_empty (Some line.now)) kept.old kept.new service.old.sessions service.new.sessions (P.sent (shown.pages service.old)) (P.sent (shown.pages service.new)) result }
+    ensures known { (knows : S → ℕ → Bool) → Follows R.makes knows → KnowsOpen knows kept.old service.old.sessions
+        → OnOk result (KnowsOpen knows kept.new service.new.sessions) }
+    ensures named { (knows : S → ℕ → Bool) → Follows R.makes knows → KnowsOpen knows kept.old service.old.sessions
+        → IfErr result (EndsKnown R.makes knows) }
+    ensures gives { GivesBy R.makes (unless_empty (Some line.now)) kept.old kept.new service.old.sessions service.new.sessions
+        (P.sent (shown.pages service.old)) (P.sent (shown.pages service.new)) result }
     ensures blames { BlamesSo P.sent R.makes (unless_empty (Some line.now)) kept.old kept.new service.old service.new result }
-    ensures send { result ≡ Err (AnswerEnd.Serve ServeEnd.SendFault) → HasRisen (P.send_faults (shown.pages service.old)) (P.send_faults (shown.pages service.new)) }
-    ensures disk { result ≡ Err (AnswerEnd.Serve ServeEnd.DiskFault) → HasRisen (shown.view service.old).faults (shown.view service.new).faults }
+    ensures send { result ≡ Err (AnswerEnd.Serve ServeEnd.SendFault)
+        → HasRisen (P.send_faults (shown.pages service.old)) (P.send_faults (shown.pages service.new)) }
+    ensures disk { result ≡ Err (AnswerEnd.Serve ServeEnd.DiskFault)
+        → HasRisen (shown.view service.old).faults (shown.view service.new).faults }
     ensures faults { CountsFault (fault_in answer_fault result) (shown.view service.old) (shown.view service.new) }
     ensures read { result ≢ Err (AnswerEnd.Serve ServeEnd.ReadFault) }
     ensures long { result ≢ Err (AnswerEnd.Serve ServeEnd.InputTooLong) }
@@ -152,17 +179,25 @@ pub fn answer_long_line<P: PageWorld, S, F, R: Reply<S, F>>(
     kept: &mut S,
 ) -> Result<(), AnswerEnd<F>>
     requires { (shown.view service.old).fit }
-    ensures done { shown.ForBook service.old (λ total book. OnOk result (AnswersOn P.sent R.makes (unless_empty None) kept.old kept.new total book service.old service.new)) }
-    ensures stops { shown.ForBook service.old (λ total book. IfErr result (StopsOn P.sent R.makes (unless_empty None) kept.old kept.new total book service.old service.new)) }
-    ensures moments { shown.ForBook service.old (λ total book. LeavesBy R.makes kept.old (unless_empty None) total book service.old service.new) }
-    ensures known { (knows : S → ℕ → Bool) → Follows R.makes knows → KnowsOpen knows kept.old service.old.sessions → OnOk result (KnowsOpen knows kept.new service.new.sessions) }
-    ensures named { (knows : S → ℕ → Bool) → Follows R.makes knows → KnowsOpen knows kept.old service.old.sessions → IfErr result (EndsKnown R.makes knows) }
-    ensures gives { GivesBy R.makes (unless_empty None) kept.old kept.new service.old.sessions service.new.sessions (P.sent (shown.pages service.old)) (P.sent (shown.pages service.new)) result }
+    ensures done { shown.ForBook service.old (λ total book. OnOk result
+        (AnswersOn P.sent R.makes (unless_empty None) kept.old kept.new total book service.old service.new)) }
+    ensures stops { shown.ForBook service.old (λ total book. IfErr result
+        (StopsOn P.sent R.makes (unless_empty None) kept.old kept.new total book service.old service.new)) }
+    ensures moments { shown.ForBook service.old (λ total book. LeavesBy R.makes kept.old
+        (unless_empty None) total book service.old service.new) }
+    ensures known { (knows : S → ℕ → Bool) → Follows R.makes knows → KnowsOpen knows kept.old service.old.sessions
+        → OnOk result (KnowsOpen knows kept.new service.new.sessions) }
+    ensures named { (knows : S → ℕ → Bool) → Follows R.makes knows → KnowsOpen knows kept.old service.old.sessions
+        → IfErr result (EndsKnown R.makes knows) }
+    ensures gives { GivesBy R.makes (unless_empty None) kept.old kept.new service.old.sessions service.new.sessions
+        (P.sent (shown.pages service.old)) (P.sent (shown.pages service.new)) result }
     ensures blames { BlamesSo P.sent R.makes (unless_empty None) kept.old kept.new service.old service.new result }
     ensures ends { IfErr result IsReplyEnd }
-    ensures send { result ≡ Err (AnswerEnd.Serve ServeEnd.SendFault) → HasRisen (P.send_faults (shown.pages service.old)) (P.send_faults (shown.pages service.new)) }
+    ensures send { result ≡ Err (AnswerEnd.Serve ServeEnd.SendFault)
+        → HasRisen (P.send_faults (shown.pages service.old)) (P.send_faults (shown.pages service.new)) }
     ensures faults { CountsFault (fault_in answer_fault result) (shown.view service.old) (shown.view service.new) }
-    ensures keeps { KeepsPages (shown.IsTold service.old) (shown.IsTold service.new) (shown.view service.old) (shown.view service.new) (shown.under service.old) (shown.under service.new) }
+    ensures keeps { KeepsPages (shown.IsTold service.old) (shown.IsTold service.new) (shown.view service.old) (shown.view service.new)
+        (shown.under service.old) (shown.under service.new) }
     ensures total { shown.total service.new ≡ shown.total service.old }
     ensures left { P.left (shown.pages service.new) ≡ P.left (shown.pages service.old) }
     ensures read_faults { P.read_faults (shown.pages service.new) ≡ P.read_faults (shown.pages service.old) }
@@ -181,14 +216,18 @@ fn send_reply<P: PageWorld, S, F, R: Reply<S, F>>(
     kept: &mut S,
 ) -> Result<(), AnswerEnd<F>>
     requires { Fits frame.now }
-    ensures done { OnOk result (FrameSent R.makes frame.now kept.old kept.new (P.sent (shown.pages service.old)) (P.sent (shown.pages service.new))) }
-    ensures stops { IfErr result (FrameStops R.makes frame.now kept.old kept.new (P.sent (shown.pages service.old)) (P.sent (shown.pages service.new))) }
+    ensures done { OnOk result (FrameSent R.makes frame.now kept.old kept.new (P.sent (shown.pages service.old))
+        (P.sent (shown.pages service.new))) }
+    ensures stops { IfErr result (FrameStops R.makes frame.now kept.old kept.new (P.sent (shown.pages service.old))
+        (P.sent (shown.pages service.new))) }
     // a crash leaves what it might have left before
     ensures moments { FrameMoments R.makes kept.old frame.now (shown.view service.old) (shown.view service.new) }
     ensures ends { IfErr result IsReplyEnd }
-    ensures send { result ≡ Err (AnswerEnd.Serve ServeEnd.SendFault) → HasRisen (P.send_faults (shown.pages service.old)) (P.send_faults (shown.pages service.new)) }
+    ensures send { result ≡ Err (AnswerEnd.Serve ServeEnd.SendFault)
+        → HasRisen (P.send_faults (shown.pages service.old)) (P.send_faults (shown.pages service.new)) }
     ensures faults { CountsFault (fault_in answer_fault result) (shown.view service.old) (shown.view service.new) }
-    ensures keeps { KeepsPages (shown.IsTold service.old) (shown.IsTold service.new) (shown.view service.old) (shown.view service.new) (shown.under service.old) (shown.under service.new) }
+    ensures keeps { KeepsPages (shown.IsTold service.old) (shown.IsTold service.new) (shown.view service.old) (shown.view service.new)
+        (shown.under service.old) (shown.under service.new) }
     ensures total { shown.total service.new ≡ shown.total service.old }
     ensures catalog { shown.catalog service.new ≡ shown.catalog service.old }
     ensures sessions { service.new.sessions ≡ service.old.sessions }

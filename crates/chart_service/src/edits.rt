@@ -24,16 +24,19 @@ impl<P: Pages> Service<P> {
     pub(crate) fn edit(&mut self, edit: &Edit) -> Result<Frame, ServiceError>
         requires sound { (shown.view self.old).fit }
         requires is_edit { IsEdit edit.now }
-        ensures reply { shown.ForBook self.old (λ total book. IfOk result (AnswersSo (RepliedTo (EditRequest edit.now)) total book self.old self.new)) }
+        ensures reply { shown.ForBook self.old (λ total book. IfOk result
+            (AnswersSo (RepliedTo (EditRequest edit.now)) total book self.old self.new)) }
         ensures standing { shown.ForBook self.old (λ total book. IfErr result IsOutside) }
-        ensures moments { shown.ForBook self.old (λ total book. shown.PassesBy (RepliedTo (EditRequest edit.now)) total book self.old self.new) }
+        ensures moments { shown.ForBook self.old (λ total book. shown.PassesBy
+            (RepliedTo (EditRequest edit.now)) total book self.old self.new) }
         ensures reads { (shown.view self.new).reads ≤ (shown.view self.old).reads + 96 }
         ensures fits { IfOk result Fits }
         ensures opens { IfOk result (λ frame. OpensBy frame self.old.sessions self.new.sessions) }
         ensures may { IfOk result (λ frame. IsEditReply frame) }
         ensures sessions { self.new.sessions ≡ self.old.sessions }
         ensures unchanged { CommitsOnly result self.old self.new }
-        ensures same_book { shown.ForBook self.old (λ total book. KeepsBook book (apply book total edit.now) → CommitsNone (shown.view self.old) (shown.view self.new)) }
+        ensures same_book { shown.ForBook self.old (λ total book. KeepsBook book (apply book total edit.now)
+            → CommitsNone (shown.view self.old) (shown.view self.new)) }
         ensures cause { IfErr result (IsCause (EditRequest edit.now) self.old self.new) }
         ensures quiet { OnOk result ((shown.view self.new).faults ≡ (shown.view self.old).faults) }
         ensures quiet_err { IfErr result (λ e. e ≢ ServiceError.DiskFault → (shown.view self.new).faults ≡ (shown.view self.old).faults) }

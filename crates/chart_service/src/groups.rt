@@ -10,7 +10,8 @@ ghost use Rattle.series_book.specs.Edits.{IsEdit};
 ghost use Rattle.series_store.specs.Groups.{ChangeNone, HaveFewSlots, answer_of};
 ghost use Rattle.series_store.specs.Results.{CommitsNone};
 ghost use Rattle.chart_service.specs.EditDamage.{NamesBadForEdit};
-ghost use Rattle.chart_service.specs.EditGroups.{AnswersSome, DoesSome, IsAfterSome, IsEditReply, IsOfGroup, ReadsByFrames, RepliesToEdits, frame_of, frames_of, group_end};
+ghost use Rattle.chart_service.specs.EditGroups.{AnswersSome, DoesSome, IsAfterSome, IsEditReply, IsOfGroup, ReadsByFrames, RepliesToEdits};
+ghost use Rattle.chart_service.specs.EditGroups.{frame_of, frames_of, group_end};
 ghost use Rattle.chart_service.specs.Faulting.{step_fault};
 ghost use Rattle.chart_service.specs.Serving.{most_ahead};
 ghost use Rattle.chart_service.specs.Stepping.{IsOutside, NamesBad};
@@ -36,17 +37,23 @@ impl<P: Pages> Service<P> {
         requires some { 0 < length edits.now }
         requires few { length edits.now ≤ most_ahead }
         requires are_edits { All IsEdit edits.now }
-        ensures reply { shown.ForBook self.old (λ total book. IfOk result (λ frames. shown.StandsSo total self.new (RepliesToEdits edits.now frames.items (shown.state self.old total book)))) }
+        ensures reply { shown.ForBook self.old (λ total book. IfOk result
+            (λ frames. shown.StandsSo total self.new (RepliesToEdits edits.now frames.items (shown.state self.old total book)))) }
         ensures standing { shown.ForBook self.old (λ total book. IfErr result IsOutside) }
         // the book after some first of these edits stays after an error
-        ensures left { shown.ForBook self.old (λ total book. result ≢ Err ServiceError.DiskFault → AnswersSome edits.now (shown.state self.old total book) (shown.image self.new)) }
+        ensures left { shown.ForBook self.old (λ total book. result ≢ Err ServiceError.DiskFault
+            → AnswersSome edits.now (shown.state self.old total book) (shown.image self.new)) }
         // and a crash at any moment leaves it
-        ensures moments { shown.ForBook self.old (λ total book. shown.PassesTo (AnswersSome edits.now (shown.state self.old total book)) self.old self.new) }
-        ensures reads { shown.ForBook self.old (λ total book. (shown.view self.new).reads ≤ (shown.view self.old).reads + 96 * length edits.now) }
+        ensures moments { shown.ForBook self.old (λ total book. shown.PassesTo
+            (AnswersSome edits.now (shown.state self.old total book)) self.old self.new) }
+        ensures reads { shown.ForBook self.old (λ total book.
+            (shown.view self.new).reads ≤ (shown.view self.old).reads + 96 * length edits.now) }
         // edits that are refused, or leave the book as it is, write and sync nothing
-        ensures idle { shown.ForBook self.old (λ total book. OnOk result (ChangeNone total book edits.now → CommitsNone (shown.view self.old) (shown.view self.new))) }
+        ensures idle { shown.ForBook self.old (λ total book. OnOk result (ChangeNone total book edits.now
+            → CommitsNone (shown.view self.old) (shown.view self.new))) }
         // they are committed together, and what their pages fill by themselves
-        ensures syncs { shown.ForBook self.old (λ total book. (shown.view self.new).syncs ≤ (shown.view self.old).syncs + group_syncs total book edits.now) }
+        ensures syncs { shown.ForBook self.old (λ total book.
+            (shown.view self.new).syncs ≤ (shown.view self.old).syncs + group_syncs total book edits.now) }
         // whatever the pages are
         ensures each { IfOk result (λ frames. length frames.items ≡ length edits.now) }
         ensures fits { IfOk result (λ frames. All Fits frames.items) }
@@ -76,13 +83,18 @@ impl<P: Pages> Service<P> {
         requires sound { (shown.view self.old).fit }
         requires some { 0 < length edits.now }
         requires are_edits { All IsEdit edits.now }
-        ensures done { shown.ForBook self.old (λ total book. OnOk result (DoesSome total book edits.now frames.old.items frames.new.items (shown.image self.new))) }
+        ensures done { shown.ForBook self.old (λ total book. OnOk result
+            (DoesSome total book edits.now frames.old.items frames.new.items (shown.image self.new))) }
         ensures standing { shown.ForBook self.old (λ total book. IfErr result IsOutside) }
-        ensures left { shown.ForBook self.old (λ total book. result ≢ Err ServiceError.DiskFault → IsAfterSome total book edits.now (shown.image self.new)) }
+        ensures left { shown.ForBook self.old (λ total book. result ≢ Err ServiceError.DiskFault
+            → IsAfterSome total book edits.now (shown.image self.new)) }
         ensures moments { shown.ForBook self.old (λ total book. shown.PassesTo (IsAfterSome total book edits.now) self.old self.new) }
-        ensures reads { shown.ForBook self.old (λ total book. (shown.view self.new).reads ≤ (shown.view self.old).reads + 96 * length edits.now) }
-        ensures few_reads { shown.ForBook self.old (λ total book. OnOk result (ReadsByFrames frames.old.items frames.new.items (shown.view self.old).reads (shown.view self.new).reads)) }
-        ensures idle { shown.ForBook self.old (λ total book. OnOk result (ChangeNone total book edits.now → CommitsNone (shown.view self.old) (shown.view self.new))) }
+        ensures reads { shown.ForBook self.old (λ total book.
+            (shown.view self.new).reads ≤ (shown.view self.old).reads + 96 * length edits.now) }
+        ensures few_reads { shown.ForBook self.old (λ total book. OnOk result
+            (ReadsByFrames frames.old.items frames.new.items (shown.view self.old).reads (shown.view self.new).reads)) }
+        ensures idle { shown.ForBook self.old (λ total book. OnOk result (ChangeNone total book edits.now
+            → CommitsNone (shown.view self.old) (shown.view self.new))) }
         ensures syncs { (shown.view self.new).syncs ≤ (shown.view self.old).syncs + 4 }
         ensures more { OnOk result (length frames.old.items < length frames.new.items) }
         ensures most { OnOk result (length frames.new.items ≤ length frames.old.items + length edits.now) }

@@ -31,7 +31,8 @@ impl<P: Pages> Service<P> {
         requires sound { (shown.view self.old).fit }
         requires range { IsInRange request.now }
         requires no_edit { IsNoEdit request.now }
-        ensures replying { RepliesOver (Replies request.now) (λ book. ReadsFew request.now book self.old.sessions) result self.old self.new }
+        ensures replying { RepliesOver (Replies request.now)
+            (λ book. ReadsFew request.now book self.old.sessions) result self.old self.new }
         ensures cause { IfErr result (IsCause request.now self.old self.new) }
         ensures looked { LooksIn (session_in request.now) result self.old self.new }
         ensures may { IfOk result (λ frame. MayAnswer request.now frame) }
@@ -71,7 +72,8 @@ impl<P: Pages> Service<P> {
     #[tactic(auto, using(crate::proofs::RoomLemmas::others_opened, crate::proofs::RoomLemmas::others_same))]
     fn open(&mut self, number: u32, cache: u64) -> Result<Frame, ServiceError>
         requires { 1 ≤ number }
-        ensures reply { (total : ℕ) (book : List Series) → IfOk result (OpensIn number cache (shown.state self.old total book) (shown.state self.new total book)) }
+        ensures reply { (total : ℕ) (book : List Series)
+            → IfOk result (OpensIn number cache (shown.state self.old total book) (shown.state self.new total book)) }
         ensures fits { IfOk result Fits }
         ensures opens { IfOk result (λ frame. OpensBy frame self.old.sessions self.new.sessions) }
         ensures kept { OnErr result (self.new.sessions ≡ self.old.sessions) }
@@ -95,7 +97,8 @@ impl<P: Pages> Service<P> {
     #[tactic(auto, using(crate::proofs::Keeping::views_closed, crate::proofs::Openings::opens_closed, crate::proofs::RoomLemmas::others_closed, crate::proofs::RoomLemmas::others_same))]
     fn close(&mut self, number: u32) -> Frame
         requires { 1 ≤ number }
-        ensures reply { (total : ℕ) (book : List Series) → Closes (is_open number self.old.sessions) number result (shown.state self.old total book) (shown.state self.new total book) }
+        ensures reply { (total : ℕ) (book : List Series)
+            → Closes (is_open number self.old.sessions) number result (shown.state self.old total book) (shown.state self.new total book) }
         ensures fits { Fits result }
         ensures opens { OpensBy result self.old.sessions self.new.sessions }
         ensures stays { IsRefusal result → self.new.sessions ≡ self.old.sessions }

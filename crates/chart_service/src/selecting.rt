@@ -17,7 +17,8 @@ pub(crate) fn selected<P: Pages>(store: &mut Store<P>, id: u16) -> Axis
     requires { id < length (stored.catalog store.old) }
     ensures space { stored.SamePages store.old store.new }
     ensures catalog { stored.SameCatalog store.old store.new }
-    ensures tree { (series : StoredSeries) → slice_get (stored.catalog store.old) id ≡ Some series → stored.selected store.new ≡ series.tree }
+    ensures tree { (series : StoredSeries) → slice_get (stored.catalog store.old) id ≡ Some series
+        → stored.selected store.new ≡ series.tree }
     ensures fit { stored.IsSound store.new → (stored.nodes store.new).fit }
     ensures slots { result.slots ≡ (stored.selected store.new).slots }
     ensures axis { IsAxis result.start result.step result.slots }
@@ -26,7 +27,8 @@ pub(crate) fn selected<P: Pages>(store: &mut Store<P>, id: u16) -> Axis
     ensures there { stored.ForSoundBook store.old (λ total book. id < length book) }
     ensures agrees { stored.ForSoundSeries store.old id (λ total book series. Agrees (stored.nodes store.new) series.slots) }
     ensures axis_is { stored.ForSoundSeries store.old id (λ total book series. result ≡ axis_of series) }
-    ensures whole { stored.ForSoundSeries store.old id (λ total book series. (page : ℕ) → IsDamaged (stored.image store.new) (stored.total store.new) (stored.selected store.new) page → ⊥) }
+    ensures whole { stored.ForSoundSeries store.old id (λ total book series. (page : ℕ)
+        → IsDamaged (stored.image store.new) (stored.total store.new) (stored.selected store.new) page → ⊥) }
 {
     let _count = store.len();
     let info = store.info(id);

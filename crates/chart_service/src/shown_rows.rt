@@ -81,7 +81,8 @@ fn query_of(spec: &ViewSpec, axis: Axis) -> Result<ViewQuery, AllocError>
 /// The range of values that a view shows whose rows these are.
 fn range_over(rows: &Rows, range: RangeSpec) -> ValueRange
     requires { IsRangeSpec range }
-    ensures shown { (grid : Grid) (samples : List Sample) → AreRowsOf grid (sample_points samples) rows.now → ShowsRange range (values_of samples) result }
+    ensures shown { (grid : Grid) (samples : List Sample) → AreRowsOf grid (sample_points samples) rows.now
+        → ShowsRange range (values_of samples) result }
     ensures in_frame { (w : ℕ) → All (IsDrawable w) rows.now → IsRange result.lo result.hi }
 {
     match range {

@@ -16,7 +16,8 @@ ghost use Rattle.chart_service.specs.Opening.{OpensBy, LosesAtMost, StaysIn};
 ghost use Rattle.zoom_session.specs.Sessions.{session_of, last_of};
 ghost use Rattle.chart_service.specs.Replies.{Replied, line_text, own_zoom};
 ghost use Rattle.chart_service.specs.Stepping.{RepliedTo, NamesBad, IsOutside, Steps, ReadsFew};
-ghost use Rattle.chart_service.specs.Called.{AnswersSo, CommitsOnly, ForLast, IsCause, IsCauseOfLine, LineBlamed, ReadsFewAgain, ReadsFewFor, RequestBlamed};
+ghost use Rattle.chart_service.specs.Called.{AnswersSo, CommitsOnly, ForLast, IsCause, IsCauseOfLine, LineBlamed, ReadsFewAgain};
+ghost use Rattle.chart_service.specs.Called.{ReadsFewFor, RequestBlamed};
 ghost use Rattle.chart_service.specs.Rooms.{HasRoom, KeepRooms, LeavesLine, LeavesOpen, TellsIn};
 ghost use Rattle.chart_service.specs.Shown as shown;
 ghost use Rattle.chart_service.specs.Syncing.{edit_asked, edit_of};
@@ -42,11 +43,13 @@ impl<P: Pages> Service<P> {
     pub fn step(&mut self, request: &Request) -> Result<Frame, ServiceError>
         requires sound { (shown.view self.old).fit }
         requires range { IsInRange request.now }
-        ensures reply { shown.ForBook self.old (λ total book. IfOk result (AnswersSo (RepliedTo request.now) total book self.old self.new)) }
+        ensures reply { shown.ForBook self.old (λ total book. IfOk result
+            (AnswersSo (RepliedTo request.now) total book self.old self.new)) }
         ensures standing { shown.ForBook self.old (λ total book. IfErr result IsOutside) }
         // a crash at any moment leaves the book from before, or the one that the reply leaves
         ensures moments { shown.ForBook self.old (λ total book. shown.PassesBy (RepliedTo request.now) total book self.old self.new) }
-        ensures reads { shown.ForBook self.old (λ total book. ReadsFew request.now book self.old.sessions (shown.view self.old).reads (shown.view self.new).reads) }
+        ensures reads { shown.ForBook self.old (λ total book. ReadsFew request.now book self.old.sessions (shown.view self.old).reads
+            (shown.view self.new).reads) }
         // whatever the pages are
         ensures fits { IfOk result Fits }
         ensures opens { IfOk result (λ frame. OpensBy frame self.old.sessions self.new.sessions) }
@@ -62,7 +65,8 @@ impl<P: Pages> Service<P> {
         // a request that is no edit commits nothing
         ensures idle { edit_asked request.now ≡ [] → IsUnchanged (shown.IsTold self.old) (shown.view self.old) (shown.view self.new) }
         // nor does an edit that leaves the book as it is
-        ensures same_book { shown.ForBook self.old (λ total book. All (λ e. KeepsBook book (apply book total e)) (edit_asked request.now) → CommitsNone (shown.view self.old) (shown.view self.new)) }
+        ensures same_book { shown.ForBook self.old (λ total book. All (λ e. KeepsBook book (apply book total e)) (edit_asked request.now)
+            → CommitsNone (shown.view self.old) (shown.view self.new)) }
         ensures cause { IfErr result (IsCause request.now self.old self.new) }
         ensures faults { CountsFault (fault_in step_fault result) (shown.view self.old) (shown.view self.new) }
         ensures bad { IfErr result (NamesBad (shown.IsTold self.new) (shown.view self.new).size (shown.image self.new)) }
@@ -85,10 +89,12 @@ impl<P: Pages> Service<P> {
     /// request as bad at the offset of its fault. Else as `step`.
     pub fn step_line(&mut self, line: &[u8]) -> Result<Frame, ServiceError>
         requires { (shown.view self.old).fit }
-        ensures reply { shown.ForBook self.old (λ total book. IfOk result (AnswersSo (Replied (line_text line.now)) total book self.old self.new)) }
+        ensures reply { shown.ForBook self.old (λ total book. IfOk result
+            (AnswersSo (Replied (line_text line.now)) total book self.old self.new)) }
         ensures standing { shown.ForBook self.old (λ total book. IfErr result IsOutside) }
         // a crash at any moment leaves the book from before, or the one that the reply leaves
-        ensures moments { shown.ForBook self.old (λ total book. shown.PassesBy (Replied (line_text line.now)) total book self.old self.new) }
+        ensures moments { shown.ForBook self.old (λ total book. shown.PassesBy
+            (Replied (line_text line.now)) total book self.old self.new) }
         ensures reads { shown.ForBook self.old (λ total book. ReadsFewFor (line_text line.now) total book self.old self.new) }
         // whatever the pages are
         ensures fits { IfOk result Fits }
@@ -128,7 +134,8 @@ impl<P: Pages> Service<P> {
         requires sound { (shown.view self.old).fit }
         requires number { 1 ≤ session }
         requires viewed { IsTrue (is_some (last_of (session_of session self.old.sessions))) }
-        ensures reply { ForLast session self.old (λ last. shown.ForBook self.old (λ total book. IfOk result (AnswersSo (RepliedTo (own_zoom session last)) total book self.old self.new))) }
+        ensures reply { ForLast session self.old (λ last. shown.ForBook self.old
+            (λ total book. IfOk result (AnswersSo (RepliedTo (own_zoom session last)) total book self.old self.new))) }
         ensures standing { shown.ForBook self.old (λ total book. IfErr result IsOutside) }
         ensures reads { ReadsFewAgain session self.old self.new }
         // whatever the pages are

@@ -1,5 +1,6 @@
 //! A service answers views.
-ghost use Rattle.std.specs.Prelude.{◌≡◌, ◌≢◌, ◌≤◌, ◌+ℤ◌, ℕ, ℤ, List, None, Some, length, slice_get, IfOk, IfErr, IfSome, OnOk, IsTrue, MatchResult, Ok, Err, ⊤};
+ghost use Rattle.std.specs.Prelude.{◌≡◌, ◌≢◌, ◌≤◌, ◌+ℤ◌, ℕ, ℤ, List, None, Some, length, slice_get, IfOk, IfErr, IfSome, OnOk, IsTrue};
+ghost use Rattle.std.specs.Prelude.{MatchResult, Ok, Err, ⊤};
 ghost use Rattle.series_book.specs.declared.one_series.Series.{Series};
 ghost use Rattle.series_store.specs.Asking.{IsNamedAt};
 ghost use Rattle.stored_book.specs.Standing.{StandsForBook};
@@ -12,7 +13,8 @@ ghost use Rattle.chart_service.specs.Looking.{Replying};
 ghost use Rattle.chart_service.specs.Opening.{StaysIn};
 ghost use Rattle.chart_service.specs.Planning.{IsSpecFor, IsLastOf, IsMoved, IsGridFor};
 ghost use Rattle.chart_service.specs.Replies.{Moves};
-ghost use Rattle.chart_service.specs.Called.{IsCauseOfView, LooksIn, MovesTo, ReadsByName, ReadsFiltered, ReadsLastOf, ReadsNamed, RepliesOver, Shows, ShowsBy, ShowsByText};
+ghost use Rattle.chart_service.specs.Called.{IsCauseOfView, LooksIn, MovesTo, ReadsByName, ReadsFiltered, ReadsLastOf, ReadsNamed};
+ghost use Rattle.chart_service.specs.Called.{RepliesOver, Shows, ShowsBy, ShowsByText};
 ghost use Rattle.chart_service.specs.Stepping.{IsLastShown, ReadsBy};
 ghost use Rattle.chart_grid.specs.Limits.{IsWindow};
 ghost use Rattle.chart_service.specs.Rooms.{FitsIn, HasRoom, KeepRooms, TellsIn};
@@ -46,7 +48,8 @@ impl<P: Pages> Service<P> {
         requires sound { (shown.view self.old).fit }
         requires number { 1 ≤ number }
         requires short { IfSome text.now (λ text. length text ≤ 8192) }
-        ensures replying { RepliesOver (ShowsByText text.now number name.now viewport word) (ReadsByName text.now name.now viewport) result self.old self.new }
+        ensures replying { RepliesOver (ShowsByText text.now number name.now viewport word)
+            (ReadsByName text.now name.now viewport) result self.old self.new }
         ensures looked { LooksIn (Some number) result self.old self.new }
         ensures cause { IfErr result (IsCauseOfView (IsNamedAt (shown.catalog self.old) name.now) self.old self.new) }
         ensures may { IfOk result (λ frame. MayShow number frame) }
@@ -73,7 +76,8 @@ impl<P: Pages> Service<P> {
     ) -> Result<Frame, ServiceError>
         requires sound { (shown.view self.old).fit }
         requires number { 1 ≤ number }
-        ensures replying { RepliesOver (ShowsBy filter number name.now viewport word) (ReadsNamed filter name.now viewport) result self.old self.new }
+        ensures replying { RepliesOver (ShowsBy filter number name.now viewport word)
+            (ReadsNamed filter name.now viewport) result self.old self.new }
         ensures looked { LooksIn (Some number) result self.old self.new }
         ensures cause { IfErr result (IsCauseOfView (IsNamedAt (shown.catalog self.old) name.now) self.old self.new) }
         ensures may { IfOk result (λ frame. MayShow number frame) }
@@ -100,7 +104,8 @@ impl<P: Pages> Service<P> {
     pub(crate) fn zoom(&mut self, number: u32, t0: i128, t1: i128) -> Result<Frame, ServiceError>
         requires sound { (shown.view self.old).fit }
         requires number { 1 ≤ number }
-        ensures replying { RepliesOver (MovesTo number (λ last. (t0, t1))) (ReadsLastOf number self.old.sessions (λ last. (t0, t1))) result self.old self.new }
+        ensures replying { RepliesOver (MovesTo number (λ last. (t0, t1)))
+            (ReadsLastOf number self.old.sessions (λ last. (t0, t1))) result self.old self.new }
         ensures looked { LooksIn (Some number) result self.old self.new }
         ensures cause { IfErr result (IsCauseOfView (IsLastShown (last_of (session_of number self.old.sessions))) self.old self.new) }
         ensures may { IfOk result (λ frame. MayShow number frame) }
@@ -123,7 +128,8 @@ impl<P: Pages> Service<P> {
     pub(crate) fn pan(&mut self, number: u32, by: i128) -> Result<Frame, ServiceError>
         requires sound { (shown.view self.old).fit }
         requires number { 1 ≤ number }
-        ensures replying { RepliesOver (MovesTo number (λ last. (last.grid.t0 +ℤ by, last.grid.t1 +ℤ by))) (ReadsLastOf number self.old.sessions (λ last. (last.grid.t0 +ℤ by, last.grid.t1 +ℤ by))) result self.old self.new }
+        ensures replying { RepliesOver (MovesTo number (λ last. (last.grid.t0 +ℤ by, last.grid.t1 +ℤ by)))
+            (ReadsLastOf number self.old.sessions (λ last. (last.grid.t0 +ℤ by, last.grid.t1 +ℤ by))) result self.old self.new }
         ensures looked { LooksIn (Some number) result self.old self.new }
         ensures cause { IfErr result (IsCauseOfView (IsLastShown (last_of (session_of number self.old.sessions))) self.old self.new) }
         ensures may { IfOk result (λ frame. MayShow number frame) }
@@ -152,8 +158,11 @@ impl<P: Pages> Service<P> {
         requires number { 1 ≤ number }
         requires opened { IsTrue (is_open number self.old.sessions) }
         requires view { IsViewIn (length (shown.catalog self.old)) last }
-        ensures replying { (total : ℕ) (book : List Series) (t0 t1 : ℤ) → shown.IsTold self.old → StandsForBook (shown.image self.old) total book → IsMoved last.grid t0 t1 grid
-            → Replying (λ frame old new. Moves last number t0 t1 frame old new) (ReadsBy last.filter last.grid.w t0 t1 (slice_get book last.series)) result total book self.old.sessions self.new.sessions (shown.view self.old) (shown.view self.new) }
+        ensures replying { (total : ℕ) (book : List Series) (t0 t1 : ℤ) → shown.IsTold self.old
+            → StandsForBook (shown.image self.old) total book → IsMoved last.grid t0 t1 grid
+            → Replying (λ frame old new. Moves last number t0 t1 frame old new)
+            (ReadsBy last.filter last.grid.w t0 t1 (slice_get book last.series)) result total book self.old.sessions self.new.sessions
+            (shown.view self.old) (shown.view self.new) }
         ensures looked { LooksIn (Some number) result self.old self.new }
         ensures cause { IfErr result (IsCauseOfView (λ id. id ≡ last.series) self.old self.new) }
         ensures may { IfOk result (λ frame. MayShow number frame) }
@@ -161,8 +170,10 @@ impl<P: Pages> Service<P> {
         ensures quiet { OnOk result ((shown.view self.new).faults ≡ (shown.view self.old).faults) }
         ensures quiet_err { IfErr result (λ e. e ≢ ServiceError.DiskFault → (shown.view self.new).faults ≡ (shown.view self.old).faults) }
         ensures stays { StaysIn number result self.old.sessions self.new.sessions }
-        ensures tells { (t0 t1 : ℤ) → IsMoved last.grid t0 t1 grid → IsWindow t0 t1 → FitsIn number last self.old.sessions → IfOk result (TellsIn number) }
-        ensures rooms { (t0 t1 : ℤ) → IsMoved last.grid t0 t1 grid → FitsIn number last self.old.sessions → HasRoom self.old.sessions number → OnOk result (HasRoom self.new.sessions number) }
+        ensures tells { (t0 t1 : ℤ) → IsMoved last.grid t0 t1 grid → IsWindow t0 t1 → FitsIn number last self.old.sessions
+            → IfOk result (TellsIn number) }
+        ensures rooms { (t0 t1 : ℤ) → IsMoved last.grid t0 t1 grid → FitsIn number last self.old.sessions → HasRoom self.old.sessions number
+            → OnOk result (HasRoom self.new.sessions number) }
     {
         // It brings in how many series there are.
         let _count = self.store.len();
@@ -183,7 +194,8 @@ impl<P: Pages> Service<P> {
     /// The view that a session was answered last, or why there is none.
     #[tactic(auto, using(crate::proofs::Lasts::none_of, crate::proofs::Lasts::no_last, crate::proofs::Lasts::last_so, crate::proofs::Lasts::view_so))]
     fn last_answered(&self, number: u32) -> Result<&ViewSpec, Refusal>
-        ensures last { MatchResult result (λ last. IsLastOf (session_of number self.now.sessions) (Ok last.now)) (λ refusal. IsLastOf (session_of number self.now.sessions) (Err refusal)) }
+        ensures last { MatchResult result (λ last. IsLastOf (session_of number self.now.sessions) (Ok last.now))
+            (λ refusal. IsLastOf (session_of number self.now.sessions) (Err refusal)) }
         ensures view { IfOk result (λ last. IsViewIn (length (shown.catalog self.now)) last.now) }
         ensures answer { OnOk result (IsTrue (is_open number self.now.sessions)) }
     {
@@ -211,7 +223,8 @@ impl<P: Pages> Service<P> {
         ensures quiet_err { IfErr result (λ e. e ≢ ServiceError.DiskFault → (shown.view self.new).faults ≡ (shown.view self.old).faults) }
         ensures stays { StaysIn number result self.old.sessions self.new.sessions }
         ensures tells { FitsIn number spec self.old.sessions → IfOk result (TellsIn number) }
-        ensures rooms { FitsIn number spec self.old.sessions → HasRoom self.old.sessions number → OnOk result (HasRoom self.new.sessions number) }
+        ensures rooms { FitsIn number spec self.old.sessions → HasRoom self.old.sessions number
+            → OnOk result (HasRoom self.new.sessions number) }
     {
         if spec.filter.is_none() {
             self.answer_coefs(number, spec)

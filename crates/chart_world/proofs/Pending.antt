@@ -1,11 +1,13 @@
 -- What is pending, and the front of a line that is kept.
-use Rattle.std.proofs.Common.{◌≡◌, ℕ, ◌+◌, ◌-◌, ◌≤◌, min, List, ◌++◌, length, take, drop, slice_range, ap, inl, inr, sym, ◌∙◌, arith, length-drop}
+use Rattle.std.proofs.Common.{◌≡◌, ℕ, ◌+◌, ◌-◌, ◌≤◌, min, List, ◌++◌, length, take, drop, slice_range, ap, inl, inr, sym, ◌∙◌, arith}
+use Rattle.std.proofs.Common.{length-drop}
 use Rattle.std.proofs.lemmas.List.{take-take, drop-drop, drop-take, take_all, length-take}
 use Rattle.std.proofs.lemmas.Bool.{cases_lt}
 use Rattle.std.proofs.Math.Seq.{take-append-add}
 
 -- a front of what is pending is a front of what stands behind the start
-pub front_of_pending : (bytes : List ℕ) (start end count : ℕ) → count ≤ end - start → take count (slice_range bytes start end) ≡ take count (drop start bytes)
+pub front_of_pending : (bytes : List ℕ) (start end count : ℕ) → count ≤ end - start
+    → take count (slice_range bytes start end) ≡ take count (drop start bytes)
 front_of_pending bytes start end count within = take-take count (end - start) (drop start bytes) within
 
 -- a range that begins at the start
@@ -13,7 +15,8 @@ pub range_from : (bytes : List ℕ) (start count : ℕ) → slice_range bytes st
 range_from bytes start count = ap (λ n. take n (drop start bytes)) (let e : start + count - start ≡ count = omega arith in e)
 
 -- what is pending once some of it was passed
-pub pending_passed : (bytes : List ℕ) (start end count : ℕ) → start + count ≤ end → slice_range bytes (start + count) end ≡ drop count (slice_range bytes start end)
+pub pending_passed : (bytes : List ℕ) (start end count : ℕ) → start + count ≤ end
+    → slice_range bytes (start + count) end ≡ drop count (slice_range bytes start end)
 pending_passed bytes start end count within =
     let rest = end - (start + count) in
     let sum : end - start ≡ count + rest = omega arith in
@@ -24,12 +27,14 @@ pending_passed bytes start end count within =
 -- a front of a front
 front_of_front : (ys : List ℕ) (count room kept : ℕ) → kept ≡ min count room → take room (take count ys) ≡ take kept ys
 front_of_front ys count room kept is = elim (cases_lt count room) [
-  | inl less ↦ take_all room (take count ys) (omega (arith, length-take count ys)) ∙ ap (λ n. take n ys) (let e : count ≡ kept = omega arith in e)
+  | inl less ↦ take_all room (take count ys) (omega (arith, length-take count ys))
+      ∙ ap (λ n. take n ys) (let e : count ≡ kept = omega arith in e)
   | inr more ↦ take-take room count ys more ∙ ap (λ n. take n ys) (let e : room ≡ kept = omega arith in e)
 ]
 
 -- a front of the bytes is added as far as there is room for 8,192
-pub kept_front : (spill ys : List ℕ) (count kept : ℕ) → length spill ≤ 8192 → kept ≡ min count (8192 - length spill) → spill ++ take kept ys ≡ take 8192 (spill ++ take count ys)
+pub kept_front : (spill ys : List ℕ) (count kept : ℕ) → length spill ≤ 8192 → kept ≡ min count (8192 - length spill)
+    → spill ++ take kept ys ≡ take 8192 (spill ++ take count ys)
 kept_front spill ys count kept short is =
     let room : length spill + (8192 - length spill) ≡ 8192 = omega arith in
     sym (
@@ -39,7 +44,9 @@ kept_front spill ys count kept short is =
     )
 
 -- the same of what is pending
-pub kept_range : (spill bytes : List ℕ) (start end count kept : ℕ) → count ≤ end - start → length spill ≤ 8192 → kept ≡ min count (8192 - length spill) → spill ++ slice_range bytes start (start + kept) ≡ take 8192 (spill ++ take count (slice_range bytes start end))
+pub kept_range : (spill bytes : List ℕ) (start end count kept : ℕ) → count ≤ end - start → length spill ≤ 8192
+    → kept ≡ min count (8192 - length spill) → spill ++ slice_range bytes start (start + kept) ≡ take 8192
+    (spill ++ take count (slice_range bytes start end))
 kept_range spill bytes start end count kept within short is =
     ap (λ l. spill ++ l) (range_from bytes start kept)
     ∙ kept_front spill (drop start bytes) count kept short is
@@ -54,8 +61,10 @@ pub pending_full : (bytes : List ℕ) (start end : ℕ) → start ≤ end → en
 pending_full bytes start end ordered within = omega (arith, length-take (end - start) (drop start bytes), length-drop start bytes)
 
 -- what is pending from a later start
-pub pending_from : (bytes : List ℕ) (start next end count : ℕ) → next ≡ start + count → next ≤ end → slice_range bytes next end ≡ drop count (slice_range bytes start end)
-pending_from bytes start next end count is within = ap (λ n. slice_range bytes n end) is ∙ pending_passed bytes start end count (omega arith)
+pub pending_from : (bytes : List ℕ) (start next end count : ℕ) → next ≡ start + count → next ≤ end
+    → slice_range bytes next end ≡ drop count (slice_range bytes start end)
+pending_from bytes start next end count is within = ap (λ n. slice_range bytes n end) is
+    ∙ pending_passed bytes start end count (omega arith)
 
 -- a piece from its beginning
 pub pending_piece : (bytes : List ℕ) (count : ℕ) → slice_range bytes 0 count ≡ take count bytes

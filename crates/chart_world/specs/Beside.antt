@@ -3,7 +3,13 @@ use Rattle.std.specs.Prelude.{ℕ, List, Option}
 use Rattle.block_disk.specs.View.{View, Beside}
 
 abbrev pub streams : Option (List ℕ) → Option (List ℕ) → ℕ → ℕ → ℕ → Beside
-streams left sent read_faults send_faults pieces = record { left = left; sent = sent; read_faults = read_faults; send_faults = send_faults; pieces = pieces }
+streams left sent read_faults send_faults pieces = record {
+  left = left;
+  sent = sent;
+  read_faults = read_faults;
+  send_faults = send_faults;
+  pieces = pieces;
+}
 
 -- the disk, with these streams beside it
 abbrev pub beside : View → Beside → View

@@ -3,12 +3,23 @@ use Rattle.std.proofs.Common.{◌≡◌, ℕ, ◌+◌, ◌≤◌, refl, sym, sub
 use Rattle.block_disk.specs.View.{Image, View, Beside, sent_now, DiskKept, Passes}
 use Rattle.chart_world.specs.Beside.{beside}
 
-pub disk_kept : {D : Type 0} (view : D → View) (old new : D) (before after : Beside) → new ≡ old → DiskKept (beside (view old) before) (beside (view new) after)
+pub disk_kept : {D : Type 0} (view : D → View) (old new : D) (before after : Beside) → new ≡ old
+    → DiskKept (beside (view old) before) (beside (view new) after)
 disk_kept {D} view old new before after same =
     let P : D → Type 0 = λ d. DiskKept (beside (view old) before) (beside (view d) after) in
-    subst P (sym same) (record { now = λ image left. left; size = refl; image = refl; faults = refl; reads = refl; syncs = refl; writes = refl; fit = λ fit. fit })
+    subst P (sym same) (record {
+      now = λ image left. left;
+      size = refl;
+      image = refl;
+      faults = refl;
+      reads = refl;
+      syncs = refl;
+      writes = refl;
+      fit = λ fit. fit;
+    })
 
-pub disk_passes : {D : Type 0} (view : D → View) (old new : D) (before after : Beside) (images : Image → Type 0) (sent : ℕ → Type 0) → new ≡ old → Passes (beside (view old) before) (beside (view new) after) images sent
+pub disk_passes : {D : Type 0} (view : D → View) (old new : D) (before after : Beside) (images : Image → Type 0) (sent : ℕ → Type 0)
+    → new ≡ old → Passes (beside (view old) before) (beside (view new) after) images sent
 disk_passes {D} view old new before after images sent same =
     let P : D → Type 0 = λ d. Passes (beside (view old) before) (beside (view d) after) images sent in
     subst P (sym same) (record {

@@ -13,7 +13,8 @@ counts_are old new disk take send =
     subst D (sym disk) (subst T (sym take) (subst S (sym send) refl))
 
 -- no fault was counted
-pub counts_none : (old new : View) → new.faults ≡ old.faults → new.beside.read_faults ≡ old.beside.read_faults → new.beside.send_faults ≡ old.beside.send_faults → CountsFault None old new
+pub counts_none : (old new : View) → new.faults ≡ old.faults → new.beside.read_faults ≡ old.beside.read_faults
+    → new.beside.send_faults ≡ old.beside.send_faults → CountsFault None old new
 counts_none old new disk take send = counts_are (faults_of old) (faults_of new) disk take send
 
 -- each count by itself, where no fault was counted
@@ -27,7 +28,8 @@ pub sends_stay : (old new : View) → CountsFault None old new → new.beside.se
 sends_stay old new same = ap (λ (c : FaultCounts). c.send) same
 
 -- behind what counted no fault
-pub counts_then : (fault : Option Fault) (old mid new : View) → CountsFault None old mid → CountsFault fault mid new → CountsFault fault old new
+pub counts_then : (fault : Option Fault) (old mid new : View) → CountsFault None old mid → CountsFault fault mid new
+    → CountsFault fault old new
 counts_then fault old mid new first then =
     let P : FaultCounts → Type 0 = λ c. CountsBy fault c (faults_of new) in
     subst P first then
@@ -37,24 +39,34 @@ pub counts_disk : (old new : View) → new.beside ≡ old.beside → HasRisen ol
 counts_disk old new beside risen = (risen, ap (λ (b : Beside). b.read_faults) beside, ap (λ (b : Beside). b.send_faults) beside)
 
 pub counts_no_disk : (old new : View) → new.beside ≡ old.beside → new.faults ≡ old.faults → CountsFault None old new
-counts_no_disk old new beside faults = counts_none old new faults (ap (λ (b : Beside). b.read_faults) beside) (ap (λ (b : Beside). b.send_faults) beside)
+counts_no_disk old new beside faults = counts_none old new faults (ap (λ (b : Beside). b.read_faults) beside)
+    (ap (λ (b : Beside). b.send_faults) beside)
 
 -- calls of the streams, which keep the disk
-module _ {W : Type 0} (view : W → View) (reads sends : W → ℕ) (beside_reads : (world : W) → (view world).beside.read_faults ≡ reads world) (beside_sends : (world : W) → (view world).beside.send_faults ≡ sends world) (old new : W) (kept : DiskKept (view old) (view new)) where
+module _ {W : Type 0} (view : W → View) (reads sends : W → ℕ) (beside_reads : (world : W)
+    → (view world).beside.read_faults ≡ reads world) (beside_sends : (world : W)
+    → (view world).beside.send_faults ≡ sends world) (old new : W) (kept : DiskKept (view old) (view new)) where
   -- a take or a send that succeeds
   pub counts_kept : reads new ≡ reads old → sends new ≡ sends old → CountsFault None (view old) (view new)
-  counts_kept read send = counts_none (view old) (view new) kept.faults (beside_reads new ∙ read ∙ sym (beside_reads old)) (beside_sends new ∙ send ∙ sym (beside_sends old))
+  counts_kept read send = counts_none (view old) (view new) kept.faults (beside_reads new ∙ read ∙ sym (beside_reads old)) (beside_sends new
+      ∙ send ∙ sym (beside_sends old))
 
   -- a send that fails
   pub counts_unsent : reads new ≡ reads old → HasRisen (sends old) (sends new) → CountsFault (Some OfSend) (view old) (view new)
   counts_unsent read risen =
       let P : ℕ → Type 0 = λ n. HasRisen n (view new).beside.send_faults in
-      let Q : ℕ → Type 0 = λ n. HasRisen (sends old) n in
-      (kept.faults, beside_reads new ∙ read ∙ sym (beside_reads old), subst P (sym (beside_sends old)) (subst Q (sym (beside_sends new)) risen))
+      let Q : ℕ → Type 0 = λ n. HasRisen (sends old) n in (
+        kept.faults,
+        beside_reads new ∙ read ∙ sym (beside_reads old),
+        subst P (sym (beside_sends old)) (subst Q (sym (beside_sends new)) risen),
+      )
 
   -- a take that fails
   pub counts_untaken : HasRisen (reads old) (reads new) → sends new ≡ sends old → CountsFault (Some OfTake) (view old) (view new)
   counts_untaken risen send =
       let P : ℕ → Type 0 = λ n. HasRisen n (view new).beside.read_faults in
-      let Q : ℕ → Type 0 = λ n. HasRisen (reads old) n in
-      (kept.faults, subst P (sym (beside_reads old)) (subst Q (sym (beside_reads new)) risen), beside_sends new ∙ send ∙ sym (beside_sends old))
+      let Q : ℕ → Type 0 = λ n. HasRisen (reads old) n in (
+        kept.faults,
+        subst P (sym (beside_reads old)) (subst Q (sym (beside_reads new)) risen),
+        beside_sends new ∙ send ∙ sym (beside_sends old),
+      )

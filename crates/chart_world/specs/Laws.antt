@@ -17,4 +17,5 @@ JoinedLines = (bytes : List ℕ) → flat_map with_line_feed (split_lines (with_
 
 -- A rest behind the last line feed is a line of its own.
 abbrev pub RestLine : Type 0
-RestLine = (bytes rest : List ℕ) → NoLineFeed rest → rest ≢ [] → split_lines (with_line_feed bytes ++ rest) ≡ split_lines (with_line_feed bytes) ++ rest ∷ []
+RestLine = (bytes rest : List ℕ) → NoLineFeed rest → rest ≢ []
+    → split_lines (with_line_feed bytes ++ rest) ≡ split_lines (with_line_feed bytes) ++ rest ∷ []

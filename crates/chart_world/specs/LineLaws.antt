@@ -1,7 +1,9 @@
 -- Laws of the lines of bytes, of whole lines with more bytes behind them, and of the first line with its line feed.
-use Rattle.std.proofs.Common.{◌≡◌, ◌≢◌, ◌⊎◌, ℕ, ◌+◌, ◌<◌, List, [], ◌∷◌, ◌++◌, Bool, true, false, cond, get_or, take, length-append, length, map, refl, ap, subst, inl, inr, sym, ◌∙◌, arith, append_assoc, Option, None, Some, IfSome}
+use Rattle.std.proofs.Common.{◌≡◌, ◌≢◌, ◌⊎◌, ℕ, ◌+◌, ◌<◌, List, [], ◌∷◌, ◌++◌, Bool, true, false, cond, get_or, take, length-append, length}
+use Rattle.std.proofs.Common.{map, refl, ap, subst, inl, inr, sym, ◌∙◌, arith, append_assoc, Option, None, Some, IfSome}
 use Rattle.std.specs.List.{slice_split, onto_first, filter, flat_map, before_first, after_first, position_or_len}
-use Rattle.std.proofs.lemmas.List.Splits.{slice_split_first, slice_split_none, slice_split-cons_yes, slice_split-cons_no, length-slice_split}
+use Rattle.std.proofs.lemmas.List.Splits.{slice_split_first, slice_split_none, slice_split-cons_yes, slice_split-cons_no}
+use Rattle.std.proofs.lemmas.List.Splits.{length-slice_split}
 use Rattle.std.proofs.lemmas.List.Sums.{fails_before_first, passes_at_first}
 use Rattle.std.proofs.lemmas.List.Elements.{filter-append}
 use Rattle.std.proofs.lemmas.List.{take_all, take_more, drop_all, append-nil, map-append, take-append-drop, append_cancel_right}
@@ -29,11 +31,13 @@ parts_some : (bytes : List ℕ) → 0 < length (slice_split is_line_feed bytes)
 parts_some bytes = omega (arith, length-slice_split is_line_feed bytes)
 
 -- the first line is what stands before the first line feed, and the others are those of the bytes behind it
-pub split_first : (bytes : List ℕ) → bytes ≢ [] → split_lines bytes ≡ before_first is_line_feed bytes ∷ split_lines (after_first is_line_feed bytes)
+pub split_first : (bytes : List ℕ) → bytes ≢ [] → split_lines bytes ≡ before_first is_line_feed bytes ∷ split_lines
+    (after_first is_line_feed bytes)
 unfolding split_lines
 split_first bytes some = elim (cases_lt (position_or_len is_line_feed bytes) (length bytes)) [
   | inl found ↦ ap without_empty_end (slice_split_first is_line_feed bytes 0 found)
-      ∙ end_behind (before_first is_line_feed bytes) (slice_split is_line_feed (after_first is_line_feed bytes)) (parts_some (after_first is_line_feed bytes))
+      ∙ end_behind (before_first is_line_feed bytes) (slice_split is_line_feed (after_first is_line_feed bytes))
+      (parts_some (after_first is_line_feed bytes))
   | inr none ↦
       let whole : before_first is_line_feed bytes ≡ bytes = take_all (position_or_len is_line_feed bytes) bytes none in
       let nothing : after_first is_line_feed bytes ≡ [] = drop_all (position_or_len is_line_feed bytes + 1) bytes (omega arith) in
@@ -43,7 +47,8 @@ split_first bytes some = elim (cases_lt (position_or_len is_line_feed bytes) (le
       ∙ ap (λ l. before_first is_line_feed bytes ∷ without_empty_end (slice_split is_line_feed l)) (sym nothing)
 ]
 
-pub lines_first : (bytes : List ℕ) → bytes ≢ [] → lines bytes ≡ text_of (before_first is_line_feed bytes) ∷ lines (after_first is_line_feed bytes)
+pub lines_first : (bytes : List ℕ) → bytes ≢ [] → lines bytes ≡ text_of (before_first is_line_feed bytes) ∷ lines
+    (after_first is_line_feed bytes)
 unfolding lines
 lines_first bytes some = ap (λ parts. map text_of parts) (split_first bytes some)
 
@@ -55,14 +60,17 @@ split_none = refl
 -- a line feed in front is an empty line
 split_feed : (byte : ℕ) (bytes : List ℕ) → is_line_feed byte ≡ true → split_lines (byte ∷ bytes) ≡ [] ∷ split_lines bytes
 unfolding split_lines
-split_feed byte bytes is = ap without_empty_end (slice_split-cons_yes is_line_feed byte bytes is) ∙ end_behind [] (slice_split is_line_feed bytes) (parts_some bytes)
+split_feed byte bytes is = ap without_empty_end (slice_split-cons_yes is_line_feed byte bytes is)
+    ∙ end_behind [] (slice_split is_line_feed bytes) (parts_some bytes)
 
 -- a byte in front of parts that aren't all empty
-onto_parts : (byte : ℕ) (bytes : List ℕ) (parts : List (List ℕ)) → bytes ≢ [] → slice_split is_line_feed bytes ≡ parts → without_empty_end (onto_first byte parts) ≡ onto_first byte (without_empty_end parts)
+onto_parts : (byte : ℕ) (bytes : List ℕ) (parts : List (List ℕ)) → bytes ≢ [] → slice_split is_line_feed bytes ≡ parts
+    → without_empty_end (onto_first byte parts) ≡ onto_first byte (without_empty_end parts)
 onto_parts byte bytes [] some is = refl
 onto_parts byte bytes ([] ∷ []) some is = absurd (some (blank bytes is))
   where
-    whole : (first : ℕ) (later : List ℕ) (b : Bool) → cond b ([] ∷ slice_split is_line_feed later) (onto_first first (slice_split is_line_feed later)) ≡ [] ∷ [] → first ∷ later ≡ []
+    whole : (first : ℕ) (later : List ℕ) (b : Bool)
+        → cond b ([] ∷ slice_split is_line_feed later) (onto_first first (slice_split is_line_feed later)) ≡ [] ∷ [] → first ∷ later ≡ []
     whole first later true is = absurd (omega (arith, parts_some later, ap length is))
     whole first later false is = absurd (by (slice_split is_line_feed later) is)
       where
@@ -78,9 +86,11 @@ onto_parts byte bytes ([] ∷ (next ∷ parts)) some is = refl
 onto_parts byte bytes ((first ∷ part) ∷ (next ∷ parts)) some is = refl
 
 -- another byte is in front of the first line
-split_other : (byte : ℕ) (bytes : List ℕ) → is_line_feed byte ≡ false → bytes ≢ [] → split_lines (byte ∷ bytes) ≡ onto_first byte (split_lines bytes)
+split_other : (byte : ℕ) (bytes : List ℕ) → is_line_feed byte ≡ false → bytes ≢ []
+    → split_lines (byte ∷ bytes) ≡ onto_first byte (split_lines bytes)
 unfolding split_lines
-split_other byte bytes is some = ap without_empty_end (slice_split-cons_no is_line_feed byte bytes is) ∙ onto_parts byte bytes (slice_split is_line_feed bytes) some refl
+split_other byte bytes is some = ap without_empty_end (slice_split-cons_no is_line_feed byte bytes is)
+    ∙ onto_parts byte bytes (slice_split is_line_feed bytes) some refl
 
 -- bytes have a line
 split_some : (bytes : List ℕ) → bytes ≢ [] → 0 < length (split_lines bytes)
@@ -91,7 +101,8 @@ not_nothing : (bytes : List ℕ) → with_line_feed bytes ≢ []
 not_nothing [] is = cc (is)
 not_nothing (byte ∷ bytes) is = cc (is)
 
-joined_onto : (byte : ℕ) (parts : List (List ℕ)) → 0 < length parts → flat_map with_line_feed (onto_first byte parts) ≡ byte ∷ flat_map with_line_feed parts
+joined_onto : (byte : ℕ) (parts : List (List ℕ)) → 0 < length parts
+    → flat_map with_line_feed (onto_first byte parts) ≡ byte ∷ flat_map with_line_feed parts
 joined_onto byte [] some = absurd (omega arith)
 joined_onto byte (part ∷ parts) some = refl
 
@@ -99,41 +110,51 @@ pub joined_lines : JoinedLines
 joined_lines [] = ap (λ parts. flat_map with_line_feed parts) (split_feed 10 [] refl ∙ ap (λ parts. [] ∷ parts) split_none)
 joined_lines (byte ∷ bytes) = by (is_line_feed byte) refl (joined_lines bytes)
   where
-    by : (b : Bool) → is_line_feed byte ≡ b → flat_map with_line_feed (split_lines (with_line_feed bytes)) ≡ with_line_feed bytes → flat_map with_line_feed (split_lines (byte ∷ with_line_feed bytes)) ≡ byte ∷ with_line_feed bytes
-    by true is rest = ap (λ parts. flat_map with_line_feed parts) (split_feed byte (with_line_feed bytes) is) ∙ ap (λ l. 10 ∷ l) rest ∙ ap (λ b. b ∷ with_line_feed bytes) (sym (eqb-true byte 10 is))
+    by : (b : Bool) → is_line_feed byte ≡ b → flat_map with_line_feed (split_lines (with_line_feed bytes)) ≡ with_line_feed bytes
+        → flat_map with_line_feed (split_lines (byte ∷ with_line_feed bytes)) ≡ byte ∷ with_line_feed bytes
+    by true is rest = ap (λ parts. flat_map with_line_feed parts) (split_feed byte (with_line_feed bytes) is) ∙ ap (λ l. 10 ∷ l) rest
+        ∙ ap (λ b. b ∷ with_line_feed bytes) (sym (eqb-true byte 10 is))
     by false is rest = ap (λ parts. flat_map with_line_feed parts) (split_other byte (with_line_feed bytes) is (not_nothing bytes))
         ∙ joined_onto byte (split_lines (with_line_feed bytes)) (split_some (with_line_feed bytes) (not_nothing bytes))
         ∙ ap (λ l. byte ∷ l) rest
 
-onto_behind : (byte : ℕ) (parts behind : List (List ℕ)) → 0 < length parts → onto_first byte (parts ++ behind) ≡ onto_first byte parts ++ behind
+onto_behind : (byte : ℕ) (parts behind : List (List ℕ)) → 0 < length parts
+    → onto_first byte (parts ++ behind) ≡ onto_first byte parts ++ behind
 onto_behind byte [] behind some = absurd (omega arith)
 onto_behind byte (part ∷ parts) behind some = refl
 
 -- a rest without a line feed is one line
 split_rest : (rest : List ℕ) → NoLineFeed rest → rest ≢ [] → split_lines rest ≡ rest ∷ []
 unfolding split_lines
-split_rest rest none some = ap without_empty_end (slice_split_none is_line_feed rest (λ k d below. ne_eqb (get_or rest k d) 10 (none k d below))) ∙ one_part rest some
+split_rest rest none some = ap without_empty_end (slice_split_none is_line_feed rest
+    (λ k d below. ne_eqb (get_or rest k d) 10 (none k d below))) ∙ one_part rest some
 
 pub rest_line : RestLine
-rest_line [] rest none some = split_feed 10 rest refl ∙ ap (λ parts. [] ∷ parts) (split_rest rest none some) ∙ ap (λ parts. parts ++ rest ∷ []) (sym (split_feed 10 [] refl ∙ ap (λ parts. [] ∷ parts) split_none))
+rest_line [] rest none some = split_feed 10 rest refl ∙ ap (λ parts. [] ∷ parts) (split_rest rest none some)
+    ∙ ap (λ parts. parts ++ rest ∷ []) (sym (split_feed 10 [] refl ∙ ap (λ parts. [] ∷ parts) split_none))
 rest_line (byte ∷ bytes) rest none some = by (is_line_feed byte) refl (rest_line bytes rest none some)
   where
     nonempty : with_line_feed bytes ++ rest ≢ []
     nonempty is = absurd (omega (arith, ap length is, length-append (with_line_feed bytes) rest, length-append bytes (10 ∷ [])))
 
-    by : (b : Bool) → is_line_feed byte ≡ b → split_lines (with_line_feed bytes ++ rest) ≡ split_lines (with_line_feed bytes) ++ rest ∷ [] → split_lines (byte ∷ (with_line_feed bytes ++ rest)) ≡ split_lines (byte ∷ with_line_feed bytes) ++ rest ∷ []
-    by true is later = split_feed byte (with_line_feed bytes ++ rest) is ∙ ap (λ parts. [] ∷ parts) later ∙ ap (λ parts. parts ++ rest ∷ []) (sym (split_feed byte (with_line_feed bytes) is))
+    by : (b : Bool) → is_line_feed byte ≡ b → split_lines (with_line_feed bytes ++ rest) ≡ split_lines (with_line_feed bytes) ++ rest ∷ []
+        → split_lines (byte ∷ (with_line_feed bytes ++ rest)) ≡ split_lines (byte ∷ with_line_feed bytes) ++ rest ∷ []
+    by true is later = split_feed byte (with_line_feed bytes ++ rest) is ∙ ap (λ parts. [] ∷ parts) later
+        ∙ ap (λ parts. parts ++ rest ∷ []) (sym (split_feed byte (with_line_feed bytes) is))
     by false is later = split_other byte (with_line_feed bytes ++ rest) is nonempty
         ∙ ap (λ parts. onto_first byte parts) later
         ∙ onto_behind byte (split_lines (with_line_feed bytes)) (rest ∷ []) (split_some (with_line_feed bytes) (not_nothing bytes))
         ∙ ap (λ parts. parts ++ rest ∷ []) (sym (split_other byte (with_line_feed bytes) is (not_nothing bytes)))
 
 -- a line feed ends a part
-parts_joined : (before rest : List ℕ) → slice_split is_line_feed (before ++ 10 ∷ rest) ≡ slice_split is_line_feed before ++ slice_split is_line_feed rest
+parts_joined : (before rest : List ℕ) → slice_split is_line_feed
+    (before ++ 10 ∷ rest) ≡ slice_split is_line_feed before ++ slice_split is_line_feed rest
 parts_joined [] rest = refl
 parts_joined (b ∷ bs) rest =
     ap (λ parts. cond (is_line_feed b) ([] ∷ parts) (onto_first b parts)) (parts_joined bs rest)
-    ∙ (elim (is_line_feed b) as (λ t. cond t ([] ∷ (slice_split is_line_feed bs ++ slice_split is_line_feed rest)) (onto_first b (slice_split is_line_feed bs ++ slice_split is_line_feed rest)) ≡ cond t ([] ∷ slice_split is_line_feed bs) (onto_first b (slice_split is_line_feed bs)) ++ slice_split is_line_feed rest) [
+    ∙ (elim (is_line_feed b) as (λ t. cond t ([] ∷ (slice_split is_line_feed bs ++ slice_split is_line_feed rest))
+    (onto_first b (slice_split is_line_feed bs ++ slice_split is_line_feed rest)) ≡ cond t ([] ∷ slice_split is_line_feed bs)
+    (onto_first b (slice_split is_line_feed bs)) ++ slice_split is_line_feed rest) [
       | true ↦ refl
       | false ↦ onto_behind b (slice_split is_line_feed bs) (slice_split is_line_feed rest) (parts_some bs)
     ])
@@ -148,7 +169,8 @@ end_joined ((b ∷ bs) ∷ xs) ys some = ap (λ l. (b ∷ bs) ∷ l) (end_joined
 
 split_joined : (before rest : List ℕ) → split_lines (before ++ 10 ∷ rest) ≡ slice_split is_line_feed before ++ split_lines rest
 unfolding split_lines
-split_joined before rest = ap without_empty_end (parts_joined before rest) ∙ end_joined (slice_split is_line_feed before) (slice_split is_line_feed rest) (parts_some rest)
+split_joined before rest = ap without_empty_end (parts_joined before rest)
+    ∙ end_joined (slice_split is_line_feed before) (slice_split is_line_feed rest) (parts_some rest)
 
 split_ended : (before rest : List ℕ) → split_lines ((before ++ 10 ∷ []) ++ rest) ≡ split_lines (before ++ 10 ∷ []) ++ split_lines rest
 split_ended before rest =
@@ -184,7 +206,8 @@ piece_ends bytes =
     ]
 
 -- where the first of the bytes' lines is known, it is the line of the first piece
-pub piece_line : (bytes : List ℕ) (line : Option (List ℕ)) → lines bytes ≡ line ∷ lines (after_first is_line_feed bytes) → lines (first_piece bytes) ≡ line ∷ []
+pub piece_line : (bytes : List ℕ) (line : Option (List ℕ)) → lines bytes ≡ line ∷ lines (after_first is_line_feed bytes)
+    → lines (first_piece bytes) ≡ line ∷ []
 piece_line bytes line first =
     let rest = after_first is_line_feed bytes in
     elim (piece_ends bytes) [
@@ -192,7 +215,8 @@ piece_line bytes line first =
           append_cancel_right (lines (first_piece bytes)) (line ∷ []) (lines rest)
           (sym (lines_joined (first_piece bytes) rest whole) ∙ ap lines (sym (pieces bytes)) ∙ first)
       | inr none ↦
-          let all : first_piece bytes ≡ bytes = sym (pieces bytes ∙ ap (λ l. first_piece bytes ++ l) none ∙ append-nil (first_piece bytes)) in
+          let all : first_piece bytes ≡ bytes = sym (pieces bytes ∙ ap (λ l. first_piece bytes ++ l) none
+          ∙ append-nil (first_piece bytes)) in
           ap lines all ∙ first ∙ ap (λ l. line ∷ l) (ap lines none ∙ lines_none)
     ]
 
@@ -202,11 +226,13 @@ no_rest [] none = refl
 no_rest (b ∷ bs) none = let first = lines_first (b ∷ bs) (λ e. cc) in cc
 
 -- more bytes behind whole lines, among the lines that say something
-pub told_behind : (front piece : List ℕ) → IsWhole front → filter says (lines (front ++ piece)) ≡ filter says (lines front) ++ filter says (lines piece)
+pub told_behind : (front piece : List ℕ) → IsWhole front
+    → filter says (lines (front ++ piece)) ≡ filter says (lines front) ++ filter says (lines piece)
 told_behind front piece whole = ap (filter says) (lines_joined front piece whole) ∙ filter-append says (lines front) (lines piece)
 
 -- a line more behind whole lines, among those that say something
-pub told_more : (front piece : List ℕ) (line : Option (List ℕ)) → IsWhole front → lines piece ≡ line ∷ [] → filter says (lines (front ++ piece)) ≡ filter says (lines front) ++ filter says (line ∷ [])
+pub told_more : (front piece : List ℕ) (line : Option (List ℕ)) → IsWhole front → lines piece ≡ line ∷ []
+    → filter says (lines (front ++ piece)) ≡ filter says (lines front) ++ filter says (line ∷ [])
 told_more front piece line whole first =
     ap (filter says) (lines_joined front piece whole ∙ ap (λ l. lines front ++ l) first) ∙ filter-append says (lines front) (line ∷ [])
 

@@ -1,5 +1,6 @@
 -- The lines of a list of bytes.
-use Rattle.std.specs.Prelude.{ℕ, ◌-◌, ◌≢◌, ◌==◌, Bool, nat_lt, if◌then◌else◌, List, [], ◌∷◌, Option, None, Some, length, take, map, All, slice_index}
+use Rattle.std.specs.Prelude.{ℕ, ◌-◌, ◌≢◌, ◌==◌, Bool, nat_lt, if◌then◌else◌, List, [], ◌∷◌, Option, None, Some, length, take, map, All}
+use Rattle.std.specs.Prelude.{slice_index}
 use Rattle.std.specs.List.{slice_split}
 
 -- a line feed ends a line

@@ -1,5 +1,6 @@
 -- How far a reader of lines has come in its input.
-use Rattle.std.specs.Prelude.{ℕ, ◌≡◌, ◌⊎◌, ◌<◌, ◌+◌, ◌-◌, ◌^◌, Bool, true, false, List, [], ◌∷◌, ◌++◌, Contains, Option, None, Some, length, take, IfSome}
+use Rattle.std.specs.Prelude.{ℕ, ◌≡◌, ◌⊎◌, ◌<◌, ◌+◌, ◌-◌, ◌^◌, Bool, true, false, List, [], ◌∷◌, ◌++◌, Contains, Option, None, Some, length}
+use Rattle.std.specs.Prelude.{take, IfSome}
 use Rattle.std.specs.List.{after_first, position_or_len}
 use Rattle.block_disk.specs.Counts.{HasGrown}
 use Rattle.chart_world.specs.Lines.{is_line_feed, lines, NoLineFeed}

@@ -15,4 +15,7 @@ pub sent_more : (most more : ℕ) (old new : View) → most ≤ more → SentOn 
 sent_more most more old new within sent = record { time = sent.time; count = omega (arith, sent.count, within) }
 
 pub sent_then : (first second : ℕ) (old mid new : View) → SentOn first old mid → SentOn second mid new → SentOn (first + second) old new
-sent_then first second old mid new one two = record { time = sends_then_sends old mid new one.time two.time; count = omega (arith, one.count, two.count) }
+sent_then first second old mid new one two = record {
+  time = sends_then_sends old mid new one.time two.time;
+  count = omega (arith, one.count, two.count);
+}

@@ -1,5 +1,6 @@
 -- Where a reader stands in its input, from one line to the next.
-use Rattle.std.proofs.Common.{◌≡◌, ◌<◌, ℕ, ◌+◌, ◌-◌, ◌^◌, false, not, IsTrue, List, [], ◌∷◌, ◌++◌, length, take, drop, get_or, Option, Some, None, IfSome, refl, ap, subst, inl, inr, sym, ◌∙◌, arith, length-append, length-drop}
+use Rattle.std.proofs.Common.{◌≡◌, ◌<◌, ℕ, ◌+◌, ◌-◌, ◌^◌, false, not, IsTrue, List, [], ◌∷◌, ◌++◌, length, take, drop, get_or, Option, Some}
+use Rattle.std.proofs.Common.{None, IfSome, refl, ap, subst, inl, inr, sym, ◌∙◌, arith, length-append, length-drop}
 use Rattle.std.specs.List.{after_first, position_or_len}
 use Rattle.std.proofs.lemmas.List.{drop-append-le, drop-drop, drop_all, take_more}
 use Rattle.std.proofs.lemmas.List.Sums.{passes_at_first}
@@ -13,7 +14,8 @@ use Rattle.chart_world.specs.Lines.{is_line_feed}
 use Rattle.chart_world.specs.Reading.{Reading, HasFeed, IsNone, unread_input, unread_up_to, unread, in_front_of, behind_first, input_length}
 
 -- a line feed in front is the first
-position_in_front : (front behind : List ℕ) → position_or_len is_line_feed front < length front → position_or_len is_line_feed (front ++ behind) ≡ position_or_len is_line_feed front
+position_in_front : (front behind : List ℕ) → position_or_len is_line_feed front < length front
+    → position_or_len is_line_feed (front ++ behind) ≡ position_or_len is_line_feed front
 position_in_front front behind found = grind (arith, nat_tests, prefix_len-append (λ x. not (is_line_feed x)) front behind)
 
 -- before the first call
@@ -40,7 +42,8 @@ feed_whole bytes found =
     inr (take at bytes, take_more bytes at 0 found ∙ ap (λ b. take at bytes ++ b ∷ []) feed)
 
 -- what stands behind more bytes
-behind_more : (bytes rest : List ℕ) (given given' : ℕ) → rest ≡ drop given bytes → given' + length (after_first is_line_feed rest) ≡ given + length rest → after_first is_line_feed rest ≡ drop given' bytes
+behind_more : (bytes rest : List ℕ) (given given' : ℕ) → rest ≡ drop given bytes
+    → given' + length (after_first is_line_feed rest) ≡ given + length rest → after_first is_line_feed rest ≡ drop given' bytes
 behind_more bytes rest given given' is sum =
     let at = position_or_len is_line_feed rest in
     let less : length (after_first is_line_feed rest) ≡ length rest - (at + 1) = length-drop (at + 1) rest in
@@ -58,7 +61,9 @@ behind_more bytes rest given given' is sum =
     ]
 
 -- a whole line behind a whole front
-whole_more : (bytes rest : List ℕ) (given given' : ℕ) → rest ≡ drop given bytes → given' + length (after_first is_line_feed rest) ≡ given + length rest → position_or_len is_line_feed rest < length rest → IsWhole (take given bytes) → IsWhole (take given' bytes)
+whole_more : (bytes rest : List ℕ) (given given' : ℕ) → rest ≡ drop given bytes
+    → given' + length (after_first is_line_feed rest) ≡ given + length rest → position_or_len is_line_feed rest < length rest
+    → IsWhole (take given bytes) → IsWhole (take given' bytes)
 whole_more bytes rest given given' is sum found whole =
     let at = position_or_len is_line_feed rest in
     let count : given + (at + 1) ≡ given' = omega (arith, found, sum, length-drop (at + 1) rest) in
@@ -68,8 +73,10 @@ whole_more bytes rest given given' is sum found whole =
     subst P front (whole_joined (take given bytes) (first_piece rest) whole (feed_whole rest found))
 
 -- One line more is given. Until the end is found it has its line feed.
-pub stands_next : (o left left' : Option (List ℕ)) (r r' : Reading) → unread r' left' ≡ behind_first (unread r left) → r.taken ≡ r.given + length r.pending → r'.taken ≡ r'.given + length r'.pending
-    → input_length r'.taken left' ≡ input_length r.taken left → (r'.ended ≡ false → HasFeed (unread r left)) → (r'.ended ≡ false → r.ended ≡ false) → (IsTrue r'.ended → IsNone left')
+pub stands_next : (o left left' : Option (List ℕ)) (r r' : Reading) → unread r' left' ≡ behind_first (unread r left)
+    → r.taken ≡ r.given + length r.pending → r'.taken ≡ r'.given + length r'.pending
+    → input_length r'.taken left' ≡ input_length r.taken left → (r'.ended ≡ false → HasFeed (unread r left))
+    → (r'.ended ≡ false → r.ended ≡ false) → (IsTrue r'.ended → IsNone left')
     → StandsIn o r left → StandsIn o r' left'
 stands_next None left left' r r' rest counted counted' total feed before none stands = record {
   behind = rest ∙ ap behind_first stands.behind;
@@ -79,7 +86,8 @@ stands_next None left left' r r' rest counted counted' total feed before none st
 stands_next (Some bytes) left left' r r' rest counted counted' total feed before none stands =
     let here : unread r left ≡ Some (drop r.given bytes) = stands.behind in
     let there : unread r' left' ≡ Some (after_first is_line_feed (drop r.given bytes)) = rest ∙ ap behind_first here in
-    let sum = passed r r' left left' (drop r.given bytes) (after_first is_line_feed (drop r.given bytes)) here there counted counted' total in
+    let sum = passed r r' left left' (drop r.given bytes)
+    (after_first is_line_feed (drop r.given bytes)) here there counted counted' total in
     record {
       behind = there ∙ ap Some (behind_more bytes (drop r.given bytes) r.given r'.given refl sum);
       whole = λ going.
@@ -90,25 +98,30 @@ stands_next (Some bytes) left left' r r' rest counted counted' total feed before
     }
 
 -- what stands behind a line that is pending
-behind_pending : (pending : List ℕ) (left : Option (List ℕ)) → position_or_len is_line_feed pending < length pending → in_front_of (after_first is_line_feed pending) left ≡ behind_first (in_front_of pending left)
+behind_pending : (pending : List ℕ) (left : Option (List ℕ)) → position_or_len is_line_feed pending < length pending
+    → in_front_of (after_first is_line_feed pending) left ≡ behind_first (in_front_of pending left)
 behind_pending pending None found = refl
 behind_pending pending (Some rest) found =
     let at = position_or_len is_line_feed pending in
     ap Some (sym (drop-append-le (at + 1) pending rest (omega (arith, found)))
     ∙ ap (λ n. drop (n + 1) (pending ++ rest)) (sym (position_in_front pending rest found)))
 
-pub feed_pending : (pending : List ℕ) (left : Option (List ℕ)) → position_or_len is_line_feed pending < length pending → HasFeed (in_front_of pending left)
+pub feed_pending : (pending : List ℕ) (left : Option (List ℕ)) → position_or_len is_line_feed pending < length pending
+    → HasFeed (in_front_of pending left)
 feed_pending pending None found = tt
 feed_pending pending (Some rest) found = omega (arith, position_in_front pending rest found, found, length-append pending rest)
 
 -- what was given is a front of the input
-pub whole_given : (input front rest : List ℕ) (given : ℕ) → input ≡ front ++ rest → given ≡ length front → IsWhole (take given input) → IsWhole front
+pub whole_given : (input front rest : List ℕ) (given : ℕ) → input ≡ front ++ rest → given ≡ length front → IsWhole (take given input)
+    → IsWhole front
 whole_given input front rest given split counted whole =
-    let same : take given input ≡ front = ap (λ n. take n input) counted ∙ ap (λ l. take (length front) l) split ∙ take-append_seam front rest in
+    let same : take given input ≡ front = ap (λ n. take n input) counted ∙ ap (λ l. take (length front) l) split
+    ∙ take-append_seam front rest in
     let P : List ℕ → Type 0 = IsWhole in
     subst P same whole
 
 -- two facts of bytes, where they are told
-pub told_with : (P R Q : List ℕ → Type 0) (o : Option (List ℕ)) → ((bytes : List ℕ) → R bytes → P bytes → Q bytes) → IfSome o R → IfSome o P → IfSome o Q
+pub told_with : (P R Q : List ℕ → Type 0) (o : Option (List ℕ)) → ((bytes : List ℕ) → R bytes → P bytes → Q bytes) → IfSome o R → IfSome o P
+    → IfSome o Q
 told_with P R Q None more r p = tt
 told_with P R Q (Some bytes) more r p = more bytes r p

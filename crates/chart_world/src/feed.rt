@@ -1,5 +1,6 @@
 //! The piece of input that was taken last, and the front of a line that began in an earlier one.
-ghost use Rattle.std.specs.Prelude.{false, ◌≡◌, ◌≤◌, ◌<◌, ◌+◌, ◌-◌, ◌^◌, ◌++◌, IfSome, IsTrue, take, vec_len, vec_capacity, IfOk, OnOk, OnErr, slice_range};
+ghost use Rattle.std.specs.Prelude.{false, ◌≡◌, ◌≤◌, ◌<◌, ◌+◌, ◌-◌, ◌^◌, ◌++◌, IfSome, IsTrue, take, vec_len, vec_capacity, IfOk, OnOk};
+ghost use Rattle.std.specs.Prelude.{OnErr, slice_range};
 ghost use Rattle.std.specs.List.{position_or_len};
 ghost use Rattle.block_disk.specs.Counts.{HasRisen, counted};
 ghost use Rattle.block_disk.specs.Streams.{Given, left_after};
@@ -103,7 +104,8 @@ impl Feed {
     /// Passes some pending bytes onto the spill, as far as that has room.
     pub(crate) fn keep(&mut self, count: usize)
         requires { count ≤ self.old.end - self.old.start }
-        ensures spill { self.new.spill.items ≡ take 8192 (self.old.spill.items ++ take count (slice_range self.old.bytes.items self.old.start self.old.end)) }
+        ensures spill { self.new.spill.items ≡ take 8192
+            (self.old.spill.items ++ take count (slice_range self.old.bytes.items self.old.start self.old.end)) }
         ensures start { self.new.start ≡ self.old.start + count }
         ensures end { self.new.end ≡ self.old.end }
         ensures bytes { self.new.bytes.items ≡ self.old.bytes.items }

@@ -1,11 +1,13 @@
 //! The lines of a stream, one at a time.
-ghost use Rattle.std.specs.Prelude.{true, false, ◌≡◌, ◌≢◌, ◌≤◌, ◌<◌, ◌+◌, ◌-◌, ◌^◌, [], None, IsTrue, IfSome, length, take, drop, List, Option, ℕ, IfOk, OnOk, OnErr};
+ghost use Rattle.std.specs.Prelude.{true, false, ◌≡◌, ◌≢◌, ◌≤◌, ◌<◌, ◌+◌, ◌-◌, ◌^◌, [], None, IsTrue, IfSome, length, take, drop, List};
+ghost use Rattle.std.specs.Prelude.{Option, ℕ, IfOk, OnOk, OnErr};
 ghost use Rattle.std.specs.List.{position_or_len};
 ghost use Rattle.block_disk.specs.Counts.{HasRisen};
 ghost use Rattle.block_disk.specs.Streams.{left_after};
 ghost use Rattle.chart_world.specs.Fronts.{StandsIn};
 ghost use Rattle.chart_world.specs.Lines.{is_line_feed, text_of};
-ghost use Rattle.chart_world.specs.Reading.{unread_input, unread_up_to, unread, told_lines, with_first, behind_first, input_length, HasFeed, HasLine, HasLineAt, IsNone, NoLineIn, Took};
+ghost use Rattle.chart_world.specs.Reading.{unread_input, unread_up_to, unread, told_lines, with_first, behind_first, input_length};
+ghost use Rattle.chart_world.specs.Reading.{HasFeed, HasLine, HasLineAt, IsNone, NoLineIn, Took};
 
 use crate::feed::{Feed, LONGEST};
 use crate::line_answer::{LineAnswer, LineFault};
@@ -34,7 +36,16 @@ impl Model for Lines {
 
     ghost use Rattle.chart_world.specs.Place.{placed, IsPlaced};
 
-    ghost view = { λ l. record { given = l.feed.taken - (l.feed.end - l.feed.start); pending = slice_range l.feed.bytes.items l.feed.start l.feed.end; taken = l.feed.taken; line = placed l.place l.feed.bytes.items l.feed.spill.items; offset = l.offset; usable = l.usable; ended = l.feed.ended; limit = l.feed.limit } };
+    ghost view = { λ l. record {
+      given = l.feed.taken - (l.feed.end - l.feed.start);
+      pending = slice_range l.feed.bytes.items l.feed.start l.feed.end;
+      taken = l.feed.taken;
+      line = placed l.place l.feed.bytes.items l.feed.spill.items;
+      offset = l.offset;
+      usable = l.usable;
+      ended = l.feed.ended;
+      limit = l.feed.limit;
+    } };
 
     ghost invariant = { λ l. IsPlaced l.place l.feed.spill.items };
 }
@@ -116,8 +127,10 @@ impl Lines {
         requires usable { IsTrue self.old.usable }
         requires ended { IsTrue self.old.ended → IsNone (S.left from.old) }
         // the answer is the first of the lines that were unread, and End where none was
-        ensures line { result ≡ Ok LineAnswer.Line → told_lines (unread self.old (S.left from.old)) ≡ with_first (Some self.new.line) (told_lines (unread self.new (S.left from.new))) }
-        ensures too_long { result ≡ Ok LineAnswer.TooLong → told_lines (unread self.old (S.left from.old)) ≡ with_first None (told_lines (unread self.new (S.left from.new))) }
+        ensures line { result ≡ Ok LineAnswer.Line → told_lines (unread self.old (S.left from.old)) ≡ with_first (Some self.new.line)
+            (told_lines (unread self.new (S.left from.new))) }
+        ensures too_long { result ≡ Ok LineAnswer.TooLong
+            → told_lines (unread self.old (S.left from.old)) ≡ with_first None (told_lines (unread self.new (S.left from.new))) }
         ensures end { result ≡ Ok LineAnswer.End → IfSome (told_lines (unread self.old (S.left from.old))) (λ lines. lines ≡ []) }
         // what stands behind it is unread
         ensures rest { OnOk result (unread self.new (S.left from.new) ≡ behind_first (unread self.old (S.left from.old))) }
@@ -135,15 +148,19 @@ impl Lines {
         // at a fault each line that could come before it has come
         ensures read_fault { result ≡ Err LineFault.ReadFault → HasRisen (S.read_faults from.old) (S.read_faults from.new) }
         ensures quiet { result ≢ Err LineFault.ReadFault → S.read_faults from.new ≡ S.read_faults from.old }
-        ensures read_before { result ≡ Err LineFault.ReadFault → NoLineIn (self.new.taken - self.old.given) (unread self.old (S.left from.old)) }
+        ensures read_before { result ≡ Err LineFault.ReadFault
+            → NoLineIn (self.new.taken - self.old.given) (unread self.old (S.left from.old)) }
         ensures read_within { result ≡ Err LineFault.ReadFault → self.new.taken ≤ self.old.limit }
         ensures past { result ≡ Err LineFault.InputTooLong → self.old.limit < self.new.taken }
-        ensures past_before { result ≡ Err LineFault.InputTooLong → NoLineIn (self.old.limit - self.old.given) (unread self.old (S.left from.old)) }
-        ensures left_on_err { OnErr result (S.left from.new ≡ left_after (self.new.taken - self.old.given) (unread self.old (S.left from.old))) }
+        ensures past_before { result ≡ Err LineFault.InputTooLong
+            → NoLineIn (self.old.limit - self.old.given) (unread self.old (S.left from.old)) }
+        ensures left_on_err { OnErr result (S.left from.new ≡ left_after (self.new.taken - self.old.given)
+            (unread self.old (S.left from.old))) }
         // a line without its line feed is given only where a take has found the end, and no take follows that
         ensures feed { OnOk result (self.new.ended ≡ false → HasFeed (unread self.old (S.left from.old))) }
         ensures not_ended { result ≡ Err LineFault.ReadFault → self.old.ended ≡ false }
-        ensures stands { (input : Option (List ℕ)) → StandsIn input self.old (S.left from.old) → OnOk result (StandsIn input self.new (S.left from.new)) }
+        ensures stands { (input : Option (List ℕ)) → StandsIn input self.old (S.left from.old)
+            → OnOk result (StandsIn input self.new (S.left from.new)) }
         ensures usable { OnOk result (IsTrue self.new.usable) }
         ensures unusable { OnErr result (self.new.usable ≡ false) }
         ensures limit { self.new.limit ≡ self.old.limit }
@@ -157,7 +174,8 @@ impl Lines {
         ensures read_faults { S.read_faults from.old ≤ S.read_faults from.new }
         ensures pieces { S.pieces from.old ≤ S.pieces from.new }
         // where no line was pending, a piece was taken, or all of the input is read
-        ensures took { (HasLine self.old → ⊥) → OnOk result (Took (S.pieces from.old) (S.pieces from.new) (unread self.new (S.left from.new))) }
+        ensures took { (HasLine self.old → ⊥) → OnOk result
+            (Took (S.pieces from.old) (S.pieces from.new) (unread self.new (S.left from.new))) }
         ensures beside { S.takes from.old from.new }
     {
         if let Some(before) = self.pending_line() {

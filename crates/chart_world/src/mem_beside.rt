@@ -11,7 +11,8 @@ use crate::mem_world::MemWorld;
 use block_disk::{Clocked, Disk, Failed, World};
 
 impl<D: Clocked> Disk for MemWorld<D> {
-    ghost view = { λ world. timed (D.view world.disk) world.log.items (streams (Some (bytes_left world)) (Some (bytes_sent world)) world.read_faults world.send_faults world.pieces) };
+    ghost view = { λ world. timed (D.view world.disk) world.log.items
+        (streams (Some (bytes_left world)) (Some (bytes_sent world)) world.read_faults world.send_faults world.pieces) };
 
     fn blocks(&mut self) -> Result<u32, Failed> {
         self.disk.blocks()
@@ -47,9 +48,11 @@ impl<D: Clocked> World for MemWorld<D> {
 
     ghost take_passes = { λ old new same. quiet_timed D.view old.disk new.disk old.log.items new.log.items _ _ _ _ same.0 same.1 };
 
-    ghost send_keeps = { λ most old new sent. kept_timed D.view old.disk new.disk old.log.items new.log.items _ _ sent.0 old.dated new.dated };
+    ghost send_keeps = { λ most old new sent. kept_timed D.view old.disk new.disk old.log.items new.log.items _ _ sent.0 old.dated
+        new.dated };
 
-    ghost send_passes = { λ most old new sent. sends_timed (D.view old.disk) (D.view new.disk) old.log.items new.log.items _ _ most sent.1 };
+    ghost send_passes = { λ most old new sent. sends_timed (D.view old.disk)
+        (D.view new.disk) old.log.items new.log.items _ _ most sent.1 };
 
     ghost send_counts = { λ most old new sent. sent.1.count };
 }

@@ -1,6 +1,7 @@
 //! What a world in memory takes and sends.
 ghost use Rattle.std.proofs.Common.{◌∙◌};
-ghost use Rattle.std.specs.Prelude.{◌≡◌, ◌≤◌, ◌<◌, ◌+◌, ◌++◌, ◌∷◌, ◌⊎◌, ◌/◌, ◌↔◌, ℕ, [], Some, min, length, take, drop, IsErr, IfOk, OnOk, OnErr, Contains, refl, if◌then◌else◌};
+ghost use Rattle.std.specs.Prelude.{◌≡◌, ◌≤◌, ◌<◌, ◌+◌, ◌++◌, ◌∷◌, ◌⊎◌, ◌/◌, ◌↔◌, ℕ, [], Some, min, length, take, drop, IsErr, IfOk, OnOk};
+ghost use Rattle.std.specs.Prelude.{OnErr, Contains, refl, if◌then◌else◌};
 ghost use Rattle.std.specs.Bool.{OnTrue, OnFalse};
 ghost use Rattle.block_disk.specs.Counts.{counted};
 ghost use Rattle.block_disk.specs.MemDisk.{alone};
@@ -28,7 +29,8 @@ impl<D: Clocked> MemWorld<D> {
         ensures disk { IfOk result (λ world. world.disk ≡ disk) }
         ensures take_fails { IfOk result (λ world. world.take_fails.items ≡ take_fails.items) }
         ensures send_fails { IfOk result (λ world. world.send_fails.items ≡ send_fails.items) }
-        ensures counts { IfOk result (λ world. (world.takes ≡ 0) × (world.sends ≡ 0) × (world.read_faults ≡ 0) × (world.send_faults ≡ 0) × (world.pieces ≡ 0)) }
+        ensures counts { IfOk result (λ world. (world.takes ≡ 0) × (world.sends ≡ 0) × (world.read_faults ≡ 0) × (world.send_faults ≡ 0)
+            × (world.pieces ≡ 0)) }
     {
         Ok(MemWorld {
             disk,
@@ -76,7 +78,8 @@ impl<D: Clocked> Streams for MemWorld<D> {
 
     ghost takes = { λ old new. (new.disk ≡ old.disk) × (new.log.items ≡ old.log.items) };
 
-    ghost sends = { λ count old new. (new.disk ≡ old.disk) × SentOn count (timed (D.view old.disk) old.log.items alone) (timed (D.view new.disk) new.log.items alone) };
+    ghost sends = { λ count old new. (new.disk ≡ old.disk)
+        × SentOn count (timed (D.view old.disk) old.log.items alone) (timed (D.view new.disk) new.log.items alone) };
 
     fn take(&mut self, buf: &mut [u8]) -> Result<usize, Failed>
         requires { 16384 ≤ length buf.old }
@@ -117,9 +120,11 @@ impl<D: Clocked> Streams for MemWorld<D> {
         ensures fault { OnErr result (self.new.send_faults ≡ counted self.old.send_faults) }
         ensures no_fault { OnOk result (self.new.send_faults ≡ self.old.send_faults) }
         ensures whole { OnOk result (bytes_sent self.new ≡ bytes_sent self.old ++ piece.now) }
-        ensures part { OnErr result ((bytes_sent self.new ≡ bytes_sent self.old) ⊎ (bytes_sent self.new ≡ bytes_sent self.old ++ take (length piece.now / 2) piece.now)) }
+        ensures part { OnErr result ((bytes_sent self.new ≡ bytes_sent self.old)
+            ⊎ (bytes_sent self.new ≡ bytes_sent self.old ++ take (length piece.now / 2) piece.now)) }
         // the send is a moment
-        ensures moments { SentOn (length piece.now) (timed (D.view self.old.disk) self.old.log.items alone) (timed (D.view self.new.disk) self.new.log.items alone) }
+        ensures moments { SentOn (length piece.now) (timed (D.view self.old.disk) self.old.log.items alone)
+            (timed (D.view self.new.disk) self.new.log.items alone) }
         // all else stays
         ensures others { SendsOnly self.old self.new }
     {
@@ -149,7 +154,8 @@ impl<D: Clocked> Streams for MemWorld<D> {
 /// Adds bytes to those sent, and notes it. Where there is no memory all stays.
 fn store(sent: &mut Vec<u8>, log: &mut Vec<Sent>, bytes: &[u8], at: u64) -> bool
     ensures sent { sent.new.items ≡ (if result then sent.old.items ++ bytes.now else sent.old.items) }
-    ensures noted { OnTrue result ((count : ℕ) × (log.new.items ≡ log.old.items ++ record { at = at; count = count } ∷ []) × (count ≡ length sent.new.items)) }
+    ensures noted { OnTrue result ((count : ℕ) × (log.new.items ≡ log.old.items ++ record { at = at; count = count } ∷ [])
+        × (count ≡ length sent.new.items)) }
     ensures log { OnFalse result (log.new.items ≡ log.old.items) }
 {
     let before = sent.len();

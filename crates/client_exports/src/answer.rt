@@ -1,7 +1,8 @@
 //! An answer as numbers.
 
 ghost use Rattle.std.specs.Prelude.{◌≡◌};
-ghost use Rattle.client_exports.specs.Answers.{TellsNext, TellsHand, TellsFrame, TellsReport, TellsView, TellsRows, TellsError, TellsDrawn, TellsSpan};
+ghost use Rattle.client_exports.specs.Answers.{TellsNext, TellsHand, TellsFrame, TellsReport, TellsView, TellsRows, TellsError, TellsDrawn};
+ghost use Rattle.client_exports.specs.Answers.{TellsSpan};
 
 use crate::fault::Fault;
 use chart_client::ClientError;
@@ -13,8 +14,8 @@ use om3_coeff::Span;
 #[derive(Clone, Copy)]
 pub struct Answer {
     /// 1 for a frame in hand, for one that was drawn, or for a column that has a value; 0 where there is none. 2 where
-    /// the field at byte `a` of the stream breaks its rule, 3 where the coefficient of level `number` and index `a` is missing, 4 where it doesn't fit, 5 where
-    /// session `session` isn't open, 6 where memory ran out, 7 where the handle is closed.
+    /// the field at byte `a` of the stream breaks its rule, 3 where the coefficient of level `number` and index `a` is missing, 4
+    /// where it doesn't fit, 5 where session `session` isn't open, 6 where memory ran out, 7 where the handle is closed.
     pub code: u32,
     /// The frame's kind: 1 done, 2 refused, 3 opened, 4 closed, 5 a view, 6 rows, 7 live, 8 a catalog, 9 stored values, 10 a sweep.
     pub kind: u32,
@@ -27,7 +28,8 @@ pub struct Answer {
     /// The coefficients of a view, or the rows of a frame of rows.
     pub count: u32,
     /// The slots of a done edit or of a view, the size of an opened session's cache, 1 where a session follows its view, a refusal's
-    /// first number, a catalog's pages, 1 where stored values are left, a sweep's pages in use; of `chart_next` with code 0 the bytes that are pending; and what the other codes name.
+    /// first number, a catalog's pages, 1 where stored values are left, a sweep's pages in use; of `chart_next` with code 0 the
+    /// bytes that are pending; and what the other codes name.
     pub a: u64,
     /// A refusal's second number, a catalog's pages in use, 1 where a sweep has clears left.
     pub b: u64,

@@ -19,7 +19,8 @@ pub(crate) fn cover_of(
     count: u32,
 ) -> Result<Bitmap, ClientError>
     requires { FitsView view.now }
-    ensures cover { IfOk result (λ cover. DrawsCover (record { view = view.now; holdings = client.now; taken = min count (length view.now.coefs) }) cover) }
+    ensures cover { IfOk result (λ cover. DrawsCover
+        (record { view = view.now; holdings = client.now; taken = min count (length view.now.coefs) }) cover) }
     ensures failed { IfErr result (λ e. CoverFails view.now client.now e) }
 {
     let mut progress = Progress::begin(alloc, client, view)?;

@@ -26,7 +26,13 @@ impl Model for Stream {
 
     ghost Value = { State };
 
-    ghost view = { λ s. record { decoder = s.decoder; client = s.client; frame = s.frame; picture = s.picture.items; columns = s.columns } };
+    ghost view = { λ s. record {
+      decoder = s.decoder;
+      client = s.client;
+      frame = s.frame;
+      picture = s.picture.items;
+      columns = s.columns;
+    } };
 
     ghost invariant = { λ s. HandFits s.frame };
 }

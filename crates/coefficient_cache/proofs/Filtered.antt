@@ -1,5 +1,6 @@
 -- Look-ups in filters and in lists that are turned round, where no two keys are equal.
-use Rattle.std.proofs.Common.{◌≡◌, ℕ, ◌+◌, ◌-◌, ◌≤◌, Bool, true, false, cond, List, [], ◌∷◌, ◌++◌, length, map, take, drop, reverse, Some, None, refl, sym, ap, ◌∙◌, append-nil, arith}
+use Rattle.std.proofs.Common.{◌≡◌, ℕ, ◌+◌, ◌-◌, ◌≤◌, Bool, true, false, cond, List, [], ◌∷◌, ◌++◌, length, map, take, drop, reverse, Some}
+use Rattle.std.proofs.Common.{None, refl, sym, ap, ◌∙◌, append-nil, arith}
 use Rattle.std.specs.Cmp.{IsEquivalence}
 use Rattle.std.specs.List.{filter, IsDistinct}
 use Rattle.std.specs.Map.{keys_of, lookup}
@@ -14,10 +15,11 @@ use Rattle.coefficient_cache.proofs.Finds.{or_else, or_else-none, lookup-append}
 -- a filter of a map is the map of a filter
 pub filter-map : {X Y : Type 0} (p : Y → Bool) (f : X → Y) (xs : List X) → filter p (map f xs) ≡ map f (filter (λ x. p (f x)) xs)
 filter-map p f [] = refl
-filter-map p f (x ∷ xs) = elim (p (f x)) as (λ b. cond b (f x ∷ filter p (map f xs)) (filter p (map f xs)) ≡ map f (cond b (x ∷ filter (λ y. p (f y)) xs) (filter (λ y. p (f y)) xs))) [
-  | true ↦ ap (λ ys. f x ∷ ys) (filter-map p f xs)
-  | false ↦ filter-map p f xs
-]
+filter-map p f (x ∷ xs) = elim (p (f x)) as (λ b. cond b (f x ∷ filter p (map f xs)) (filter p (map f xs)) ≡ map f
+    (cond b (x ∷ filter (λ y. p (f y)) xs) (filter (λ y. p (f y)) xs))) [
+      | true ↦ ap (λ ys. f x ∷ ys) (filter-map p f xs)
+      | false ↦ filter-map p f xs
+    ]
 
 pub filter-reverse : {X : Type 0} (p : X → Bool) (xs : List X) → filter p (reverse xs) ≡ reverse (filter p xs)
 filter-reverse p [] = refl
@@ -41,18 +43,20 @@ filter-take p n xs = (
 module _ {K V : Type 0} (test : K → Bool) where
   pub lookup-filter-none : (q : K × V → Bool) (es : List (K × V)) → lookup test es ≡ None → lookup test (filter q es) ≡ None
   lookup-filter-none q [] h = refl
-  lookup-filter-none q (f ∷ fs) h = (elim (test f.0) as (λ b. test f.0 ≡ b → cond b (Some f.1) (lookup test fs) ≡ None → lookup test (filter q (f ∷ fs)) ≡ None) [
-    | true ↦ λ t e. absurd (let bad : Some f.1 ≡ None = e in cc)
-    | false ↦ λ t e.
-        let on = lookup-filter-none q fs e in
-        elim (q f) as (λ b. lookup test (cond b (f ∷ filter q fs) (filter q fs)) ≡ None) [
-          | true ↦ ap (λ b. cond b (Some f.1) (lookup test (filter q fs))) t ∙ on
-          | false ↦ on
-        ]
-  ]) refl h
+  lookup-filter-none q (f ∷ fs) h = (elim (test f.0) as (λ b. test f.0 ≡ b → cond b (Some f.1) (lookup test fs) ≡ None
+      → lookup test (filter q (f ∷ fs)) ≡ None) [
+        | true ↦ λ t e. absurd (let bad : Some f.1 ≡ None = e in cc)
+        | false ↦ λ t e.
+            let on = lookup-filter-none q fs e in
+            elim (q f) as (λ b. lookup test (cond b (f ∷ filter q fs) (filter q fs)) ≡ None) [
+              | true ↦ ap (λ b. cond b (Some f.1) (lookup test (filter q fs))) t ∙ on
+              | false ↦ on
+            ]
+      ]) refl h
 
   -- a key that is found in a front that is kept is found
-  pub lookup-kept : (n : ℕ) (xs ys : List (K × V)) (v : V) → length xs ≤ n → lookup test xs ≡ Some v → lookup test (take n (xs ++ ys)) ≡ Some v
+  pub lookup-kept : (n : ℕ) (xs ys : List (K × V)) (v : V) → length xs ≤ n → lookup test xs ≡ Some v
+      → lookup test (take n (xs ++ ys)) ≡ Some v
   lookup-kept n xs ys v h found =
       let rest : n ≡ length xs + (n - length xs) = omega arith in
       ap (λ m. lookup test (take m (xs ++ ys))) rest
@@ -62,26 +66,28 @@ module _ {K V : Type 0} (test : K → Bool) where
 
 module _ {K V : Type 0} {eq : K → K → Bool} (laws : IsEquivalence eq) (exact : (x y : K) → eq x y ≡ true → x ≡ y) where
   -- in a filter a look-up finds the entry just if it passes
-  pub lookup-filter : (q : K × V → Bool) (es : List (K × V)) (k : K) (v : V) → IsDistinct eq (keys_of es) → lookup (eq k) es ≡ Some v → lookup (eq k) (filter q es) ≡ cond (q (k, v)) (Some v) None
+  pub lookup-filter : (q : K × V → Bool) (es : List (K × V)) (k : K) (v : V) → IsDistinct eq (keys_of es) → lookup (eq k) es ≡ Some v
+      → lookup (eq k) (filter q es) ≡ cond (q (k, v)) (Some v) None
   lookup-filter q [] k v d h = absurd cc
-  lookup-filter q (f ∷ fs) k v d h = (elim (eq k f.0) as (λ b. eq k f.0 ≡ b → lookup (eq k) (filter q (f ∷ fs)) ≡ cond (q (k, v)) (Some v) None) [
-    | true ↦ λ t.
-        let head : Some f.1 ≡ Some v = rw t at h in
-        let value : f.1 ≡ v = cc in
-        let is : f ≡ (k, v) = (λ i. (sym (exact k f.0 t) i, value i)) in
-        let none = lookup-filter-none (eq k) q fs (lookup-none (eq k) fs (none_past_head laws k f fs d t)) in
-        (elim (q f) as (λ b. lookup (eq k) (cond b (f ∷ filter q fs) (filter q fs)) ≡ cond b (Some v) None) [
-          | true ↦ ap (λ b. cond b (Some f.1) (lookup (eq k) (filter q fs))) t ∙ head
-          | false ↦ none
-        ])
-        ∙ ap (λ e. cond (q e) (Some v) None) is
-    | false ↦ λ t.
-        let on = lookup-filter q fs k v (IsDistinct-tail eq f.0 (keys_of fs) d) (rw t at h) in
-        elim (q f) as (λ b. lookup (eq k) (cond b (f ∷ filter q fs) (filter q fs)) ≡ cond (q (k, v)) (Some v) None) [
-          | true ↦ ap (λ b. cond b (Some f.1) (lookup (eq k) (filter q fs))) t ∙ on
-          | false ↦ on
-        ]
-  ]) refl
+  lookup-filter q (f ∷ fs) k v d h = (elim (eq k f.0) as (λ b. eq k f.0 ≡ b
+      → lookup (eq k) (filter q (f ∷ fs)) ≡ cond (q (k, v)) (Some v) None) [
+        | true ↦ λ t.
+            let head : Some f.1 ≡ Some v = rw t at h in
+            let value : f.1 ≡ v = cc in
+            let is : f ≡ (k, v) = (λ i. (sym (exact k f.0 t) i, value i)) in
+            let none = lookup-filter-none (eq k) q fs (lookup-none (eq k) fs (none_past_head laws k f fs d t)) in
+            (elim (q f) as (λ b. lookup (eq k) (cond b (f ∷ filter q fs) (filter q fs)) ≡ cond b (Some v) None) [
+              | true ↦ ap (λ b. cond b (Some f.1) (lookup (eq k) (filter q fs))) t ∙ head
+              | false ↦ none
+            ])
+            ∙ ap (λ e. cond (q e) (Some v) None) is
+        | false ↦ λ t.
+            let on = lookup-filter q fs k v (IsDistinct-tail eq f.0 (keys_of fs) d) (rw t at h) in
+            elim (q f) as (λ b. lookup (eq k) (cond b (f ∷ filter q fs) (filter q fs)) ≡ cond (q (k, v)) (Some v) None) [
+              | true ↦ ap (λ b. cond b (Some f.1) (lookup (eq k) (filter q fs))) t ∙ on
+              | false ↦ on
+            ]
+      ]) refl
 
   -- turning a list round changes no look-up
   pub lookup-reverse : (es : List (K × V)) (k : K) → IsDistinct eq (keys_of es) → lookup (eq k) (reverse es) ≡ lookup (eq k) es

@@ -1,5 +1,7 @@
 -- A list whose first pairs are of the needed keys: it gets their coefficients in place.
-use Rattle.std.proofs.Common.{◌≡◌, ℕ, zero, suc, ◌+◌, ◌-◌, ◌<◌, ◌≤◌, Bool, false, not, ◌||◌, List, [], ◌∷◌, ◌++◌, length, take, drop, set, get_or, reverse, Some, None, Option, refl, sym, ap, ap₂, ◌∙◌, subst, arith, append_assoc, append-nil, drop_of_length-le, length-append, length-take, length-drop, take-append-drop, take_all}
+use Rattle.std.proofs.Common.{◌≡◌, ℕ, zero, suc, ◌+◌, ◌-◌, ◌<◌, ◌≤◌, Bool, false, not, ◌||◌, List, [], ◌∷◌, ◌++◌, length, take, drop, set}
+use Rattle.std.proofs.Common.{get_or, reverse, Some, None, Option, refl, sym, ap, ap₂, ◌∙◌, subst, arith, append_assoc, append-nil}
+use Rattle.std.proofs.Common.{drop_of_length-le, length-append, length-take, length-drop, take-append-drop, take_all}
 use Rattle.std.specs.List.{filter, IsDistinct}
 use Rattle.std.specs.Map.{keys_of}
 use Rattle.std.proofs.Math.Seq.{set-append_seam}
@@ -30,7 +32,8 @@ alike-behind (None ∷ xs) ps qs h = alike-behind xs ps qs h
 alike-behind (Some e ∷ xs) ps qs h = (refl, alike-behind xs ps qs h)
 
 -- one more pair of the same key
-pub alike-more : (ps qs : List (Option (SeriesKey × Coef))) (k : SeriesKey) (v w : Coef) → AreAlike ps qs → AreAlike (ps ++ Some (with_coef k v) ∷ []) (qs ++ Some (with_coef k w) ∷ [])
+pub alike-more : (ps qs : List (Option (SeriesKey × Coef))) (k : SeriesKey) (v w : Coef) → AreAlike ps qs
+    → AreAlike (ps ++ Some (with_coef k v) ∷ []) (qs ++ Some (with_coef k w) ∷ [])
 alike-more [] [] k v w h = (refl, tt)
 alike-more [] (q ∷ qs) k v w h = absurd h
 alike-more (p ∷ ps) [] k v w h = absurd h
@@ -61,7 +64,8 @@ alike-count : (ps qs : List (Option (SeriesKey × Coef))) → AreAlike ps qs →
 alike-count ps qs h = sym (length-map (shown qs) (λ e. e.0)) ∙ ap length (alike-keys ps qs h) ∙ length-map (shown ps) (λ e. e.0)
 
 -- what is held at a place
-pub alike-held : (ps qs : List (Option (SeriesKey × Coef))) → AreAlike ps qs → (i : ℕ) (k : SeriesKey) (v : Coef) → get_or ps i None ≡ Some (k, v) → (w : Coef) × (get_or qs i None ≡ Some (k, w))
+pub alike-held : (ps qs : List (Option (SeriesKey × Coef))) → AreAlike ps qs → (i : ℕ) (k : SeriesKey) (v : Coef)
+    → get_or ps i None ≡ Some (k, v) → (w : Coef) × (get_or qs i None ≡ Some (k, w))
 alike-held [] [] h i k v at = absurd (none-some (with_coef k v) at)
 alike-held [] (q ∷ qs) h i k v at = absurd h
 alike-held (p ∷ ps) [] h i k v at = absurd h
@@ -69,7 +73,10 @@ alike-held (None ∷ ps) (None ∷ qs) h zero k v at = absurd (none-some (with_c
 alike-held (None ∷ ps) (None ∷ qs) h (suc i) k v at = alike-held ps qs h i k v at
 alike-held (None ∷ ps) (Some f ∷ qs) h i k v at = absurd h
 alike-held (Some e ∷ ps) (None ∷ qs) h i k v at = absurd h
-alike-held (Some e ∷ ps) (Some f ∷ qs) h zero k v at = (f.1, ap (λ (x : SeriesKey). some_pair (with_coef x f.1)) (sym h.0 ∙ key_in e.0 k e.1 v at))
+alike-held (Some e ∷ ps) (Some f ∷ qs) h zero k v at = (
+  f.1,
+  ap (λ (x : SeriesKey). some_pair (with_coef x f.1)) (sym h.0 ∙ key_in e.0 k e.1 v at),
+)
 alike-held (Some e ∷ ps) (Some f ∷ qs) h (suc i) k v at = alike-held ps qs h.1 i k v at
 
 alike-none : (ps qs : List (Option (SeriesKey × Coef))) → AreAlike ps qs → (i : ℕ) → get_or ps i None ≡ None → get_or qs i None ≡ None
@@ -84,7 +91,8 @@ alike-none (Some e ∷ ps) (Some f ∷ qs) h zero at = absurd (none-some e (sym 
 alike-none (Some e ∷ ps) (Some f ∷ qs) h (suc i) at = alike-none ps qs h.1 i at
 
 -- puts at the same places are kept as well
-pub kept-alike : (ps qs : List (Option (SeriesKey × Coef))) (places : List (SeriesKey × ℕ)) (start capacity : ℕ) → AreKept ps places start capacity → AreAlike ps qs → AreKept qs places start capacity
+pub kept-alike : (ps qs : List (Option (SeriesKey × Coef))) (places : List (SeriesKey × ℕ)) (start capacity : ℕ)
+    → AreKept ps places start capacity → AreAlike ps qs → AreKept qs places start capacity
 kept-alike ps qs places start capacity kept h = record {
   found = λ k i at. let was = kept.found k i at in alike-held ps qs h i k was.0 was.1;
   placed = λ i k v at. let was = alike-held qs ps (alike-turned ps qs h) i k v at in kept.placed i k was.0 was.1;
@@ -103,62 +111,91 @@ put_in-length : (series : ℕ) (needed : List (Key × Coef)) → length (put_in 
 put_in-length series needed = length-map needed (λ e. Some (series_key series e.0, e.1))
 
 -- one more of the last puts is of the needed key of its place
-pub keys-more : (ps : List (Option (SeriesKey × Coef))) (front series : ℕ) (needed : List (Key × Coef)) (i : ℕ) (d : Key × Coef) (k : SeriesKey) (v : Coef) → i < length needed
+pub keys-more : (ps : List (Option (SeriesKey × Coef))) (front series : ℕ) (needed : List (Key × Coef)) (i : ℕ) (d : Key
+    × Coef) (k : SeriesKey) (v : Coef) → i < length needed
     → get_or ps (front + i) None ≡ Some (k, v) → k ≡ series_key series (get_or needed i d).0
-    → AreAlike (take i (drop front ps)) (put_in series (take i needed)) → AreAlike (take (i + 1) (drop front ps)) (put_in series (take (i + 1) needed))
+    → AreAlike (take i (drop front ps)) (put_in series (take i needed))
+    → AreAlike (take (i + 1) (drop front ps)) (put_in series (take (i + 1) needed))
 keys-more ps front series needed i d k v within at is was =
     let e : Key × Coef = get_or needed i d in
     let here : get_or (drop front ps) i None ≡ Some (k, v) = get_or-drop front ps i None ∙ at in
     let less : i < length (drop front ps) = held-within (drop front ps) i (k, v) here in
     let left : take (i + 1) (drop front ps) ≡ take i (drop front ps) ++ Some (with_coef (series_key series e.0) v) ∷ [] =
-    take_more (drop front ps) i None less ∙ ap (λ (o : Option (SeriesKey × Coef)). take i (drop front ps) ++ o ∷ []) (here ∙ ap (λ (x : SeriesKey). some_pair (with_coef x v)) is) in
+    take_more (drop front ps) i None less ∙ ap (λ (o : Option (SeriesKey × Coef)). take i (drop front ps) ++ o ∷ []) (here
+    ∙ ap (λ (x : SeriesKey). some_pair (with_coef x v)) is) in
     let right : put_in series (take (i + 1) needed) ≡ put_in series (take i needed) ++ Some (with_coef (series_key series e.0) e.1) ∷ [] =
     map_more (λ e. Some (series_key series e.0, e.1)) needed i d within in
     subst (λ (l : List (Option (SeriesKey × Coef))). AreAlike l (put_in series (take (i + 1) needed))) (sym left)
-    (subst (λ (l : List (Option (SeriesKey × Coef))). AreAlike (take i (drop front ps) ++ Some (with_coef (series_key series e.0) v) ∷ []) l) (sym right)
+    (subst (λ (l : List (Option (SeriesKey × Coef))). AreAlike
+    (take i (drop front ps) ++ Some (with_coef (series_key series e.0) v) ∷ []) l) (sym right)
     (alike-more (take i (drop front ps)) (put_in series (take i needed)) (series_key series e.0) v e.1 was))
 
-pub keys-all : (ps : List (Option (SeriesKey × Coef))) (front series : ℕ) (needed : List (Key × Coef)) (i : ℕ) → front ≡ length ps - length needed → length needed ≤ length ps → i ≡ length needed
+pub keys-all : (ps : List (Option (SeriesKey × Coef))) (front series : ℕ) (needed : List (Key × Coef)) (i : ℕ)
+    → front ≡ length ps - length needed → length needed ≤ length ps → i ≡ length needed
     → AreAlike (take i (drop front ps)) (put_in series (take i needed)) → HasKeys ps series needed
 keys-all ps front series needed i begins fits all was =
     let size : length (drop front ps) ≡ length needed = omega (arith, length-drop front ps, begins, fits) in
     record {
       fits = fits;
       alike = subst (λ (n : ℕ). AreAlike (drop n ps) (put_in series needed)) begins
-          (subst (λ (l : List (Option (SeriesKey × Coef))). AreAlike l (put_in series needed)) (take_all i (drop front ps) (omega (arith, size, all)))
-          (subst (λ (l : List (Key × Coef)). AreAlike (take i (drop front ps)) (put_in series l)) (take_all i needed (omega (arith, all))) was));
+          (subst (λ (l : List (Option (SeriesKey × Coef))). AreAlike l (put_in series needed))
+          (take_all i (drop front ps) (omega (arith, size, all)))
+          (subst (λ (l : List (Key × Coef)). AreAlike (take i (drop front ps)) (put_in series l))
+          (take_all i needed (omega (arith, all))) was));
     }
 
 -- one more pair is set
-pub set-more : (old now : List (Option (SeriesKey × Coef))) (front series : ℕ) (needed : List (Key × Coef)) (i : ℕ) (d : Key × Coef) (k : SeriesKey) (v : Coef) → front + length needed ≡ length old → i < length needed
-    → now ≡ (take front old ++ put_in series (take i needed)) ++ drop (front + i) old → k ≡ series_key series (get_or needed i d).0 → v ≡ (get_or needed i d).1
+pub set-more : (old now : List (Option (SeriesKey × Coef))) (front series : ℕ) (needed : List (Key × Coef)) (i : ℕ) (d : Key
+    × Coef) (k : SeriesKey) (v : Coef) → front + length needed ≡ length old → i < length needed
+    → now ≡ (take front old ++ put_in series (take i needed)) ++ drop (front + i) old → k ≡ series_key series (get_or needed i d).0
+    → v ≡ (get_or needed i d).1
     → set now (front + i) (Some (with_coef k v)) ≡ (take front old ++ put_in series (take (i + 1) needed)) ++ drop (front + (i + 1)) old
 set-more old now front series needed i d k v size within was is value =
     let xs : List (Option (SeriesKey × Coef)) = take front old ++ put_in series (take i needed) in
     let o : Option (SeriesKey × Coef) = Some (with_coef k v) in
-    let long : length xs ≡ front + i = omega (arith, length-append (take front old) (put_in series (take i needed)), put_in-length series (take i needed), length-take front old, length-take i needed, size, within) in
-    let seam : drop (front + i) old ≡ get_or old (front + i) None ∷ drop (front + i + 1) old = drop_more old (front + i) None (omega (arith, size, within)) in
-    let pair : o ≡ Some (series_key series (get_or needed i d).0, (get_or needed i d).1) = ap₂ (λ (x : SeriesKey) (y : Coef). some_pair (with_coef x y)) is value in
+    let long : length xs ≡ front + i = omega (
+      arith,
+      length-append (take front old) (put_in series (take i needed)),
+      put_in-length series (take i needed),
+      length-take front old,
+      length-take i needed,
+      size,
+      within,
+    ) in
+    let seam : drop (front + i) old ≡ get_or old (front + i) None ∷ drop (front + i + 1) old = drop_more old (front + i) None
+    (omega (arith, size, within)) in
+    let pair : o ≡ Some (
+      series_key series (get_or needed i d).0,
+      (get_or needed i d).1,
+    ) = ap₂ (λ (x : SeriesKey) (y : Coef). some_pair (with_coef x y)) is value in
     let more : put_in series (take (i + 1) needed) ≡ put_in series (take i needed) ++ o ∷ [] =
-    map_more (λ e. Some (series_key series e.0, e.1)) needed i d within ∙ ap (λ (x : Option (SeriesKey × Coef)). put_in series (take i needed) ++ x ∷ []) (sym pair) in
+    map_more (λ e. Some (series_key series e.0, e.1)) needed i d within
+    ∙ ap (λ (x : Option (SeriesKey × Coef)). put_in series (take i needed) ++ x ∷ []) (sym pair) in
     let next : front + i + 1 ≡ front + (i + 1) = omega arith in
-    ap₂ (λ (l : List (Option (SeriesKey × Coef))) (n : ℕ). set l n o) (was ∙ ap (λ (l : List (Option (SeriesKey × Coef))). xs ++ l) seam) (sym long)
+    ap₂ (λ (l : List (Option (SeriesKey × Coef))) (n : ℕ). set l n o) (was
+    ∙ ap (λ (l : List (Option (SeriesKey × Coef))). xs ++ l) seam) (sym long)
     ∙ set-append_seam xs (get_or old (front + i) None) (drop (front + i + 1) old) o
     ∙ sym (append_assoc xs (o ∷ []) (drop (front + i + 1) old))
-    ∙ ap (λ (l : List (Option (SeriesKey × Coef))). l ++ drop (front + i + 1) old) (append_assoc (take front old) (put_in series (take i needed)) (o ∷ []) ∙ ap (λ (l : List (Option (SeriesKey × Coef))). take front old ++ l) (sym more))
+    ∙ ap (λ (l : List (Option (SeriesKey × Coef))). l ++ drop (front + i + 1) old)
+    (append_assoc (take front old) (put_in series (take i needed)) (o ∷ [])
+    ∙ ap (λ (l : List (Option (SeriesKey × Coef))). take front old ++ l) (sym more))
     ∙ ap (λ (n : ℕ). (take front old ++ put_in series (take (i + 1) needed)) ++ drop n old) next
 
 -- before the first and behind the last
-pub set-first : (old : List (Option (SeriesKey × Coef))) (front series : ℕ) (needed : List (Key × Coef)) → old ≡ (take front old ++ put_in series (take 0 needed)) ++ drop (front + 0) old
+pub set-first : (old : List (Option (SeriesKey × Coef))) (front series : ℕ) (needed : List (Key × Coef))
+    → old ≡ (take front old ++ put_in series (take 0 needed)) ++ drop (front + 0) old
 set-first old front series needed =
-    sym (ap₂ (λ (l : List (Option (SeriesKey × Coef))) (n : ℕ). l ++ drop n old) (append-nil (take front old)) (omega arith) ∙ take-append-drop front old)
+    sym (ap₂ (λ (l : List (Option (SeriesKey × Coef))) (n : ℕ). l ++ drop n old) (append-nil (take front old)) (omega arith)
+    ∙ take-append-drop front old)
 
-pub set-all : (old now : List (Option (SeriesKey × Coef))) (front series : ℕ) (needed : List (Key × Coef)) (i : ℕ) → front + length needed ≡ length old → i ≡ length needed
+pub set-all : (old now : List (Option (SeriesKey × Coef))) (front series : ℕ) (needed : List (Key × Coef)) (i : ℕ)
+    → front + length needed ≡ length old → i ≡ length needed
     → now ≡ (take front old ++ put_in series (take i needed)) ++ drop (front + i) old → now ≡ take front old ++ put_in series needed
 set-all old now front series needed i size all was =
     let none : drop (front + i) old ≡ [] = drop_of_length-le old (omega (arith, size, all)) in
     was
-    ∙ ap₂ (λ (l : List (Key × Coef)) (r : List (Option (SeriesKey × Coef))). (take front old ++ put_in series l) ++ r) (take_all i needed (omega (arith, all))) none
+    ∙ ap₂ (λ (l : List (Key × Coef)) (r : List (Option (SeriesKey × Coef))). (take front old ++ put_in series l) ++ r)
+    (take_all i needed (omega (arith, all))) none
     ∙ append-nil (take front old ++ put_in series needed)
 
 -- what is set is alike
@@ -175,9 +212,11 @@ module _ (ps : List (Option (SeriesKey × Coef))) (series : ℕ) (needed : List 
   renews-front = record {
     front = shown (drop begin ps);
     rest = reverse (shown (take begin ps));
-    was = ap reverse (ap shown (sym (take-append-drop begin ps)) ∙ shown-append (take begin ps) (drop begin ps)) ∙ reverse-append (shown (take begin ps)) (shown (drop begin ps));
+    was = ap reverse (ap shown (sym (take-append-drop begin ps)) ∙ shown-append (take begin ps) (drop begin ps))
+        ∙ reverse-append (shown (take begin ps)) (shown (drop begin ps));
     keys = sym (alike-keys (drop begin ps) (put_in series needed) keys.alike) ∙ ap keys_of (shown-put series needed);
-    is = ap reverse (shown-append (take begin ps) (put_in series needed) ∙ ap (λ l. shown (take begin ps) ++ l) (shown-put series needed)) ∙ reverse-append (shown (take begin ps)) (in_series series needed);
+    is = ap reverse (shown-append (take begin ps) (put_in series needed) ∙ ap (λ l. shown (take begin ps) ++ l) (shown-put series needed))
+        ∙ reverse-append (shown (take begin ps)) (in_series series needed);
   }
 
 -- whether a list has a key is told by its keys
@@ -194,7 +233,8 @@ has-alike : (es fs : List (SeriesKey × Coef)) → keys_of es ≡ keys_of fs →
 has-alike es fs same k = has-among es k ∙ ap (λ l. among l k) same ∙ sym (has-among fs k)
 
 -- the pairs behind them are those of the other keys
-pub front-others : (old new : List (SeriesKey × Coef)) (series : ℕ) (needed : List (Key × Coef)) → IsDistinct key_eq (keys_of old) → (front : RenewsFront old new series needed)
+pub front-others : (old new : List (SeriesKey × Coef)) (series : ℕ) (needed : List (Key × Coef)) → IsDistinct key_eq (keys_of old)
+    → (front : RenewsFront old new series needed)
     → others old (in_series series needed) ≡ front.rest
 front-others old new series needed apart front =
     let all : List (SeriesKey × Coef) = in_series series needed in
@@ -204,7 +244,8 @@ front-others old new series needed apart front =
     ∙ rest-others front.front front.rest (subst (λ l. IsDistinct key_eq (keys_of l)) front.was apart)
 
 -- the list after the view has the pairs in front
-pub renewed-front : (capacity : ℕ) (old new : List (SeriesKey × Coef)) (series : ℕ) (needed : List (Key × Coef)) → IsDistinct key_eq (keys_of old) → length old ≤ capacity
+pub renewed-front : (capacity : ℕ) (old new : List (SeriesKey × Coef)) (series : ℕ) (needed : List (Key × Coef))
+    → IsDistinct key_eq (keys_of old) → length old ≤ capacity
     → RenewsFront old new series needed → renewed capacity old (in_series series needed) ≡ new
 renewed-front capacity old new series needed apart fits front =
     let all : List (SeriesKey × Coef) = in_series series needed in

@@ -1,5 +1,6 @@
 -- Keys of one series: which are the same, and needed lists as pairs of a list.
-use Rattle.std.proofs.Common.{◌≡◌, ◌≢◌, ℕ, zero, suc, ◌+◌, ◌<◌, ◌≤◌, true, false, ◌&&◌, ◌||◌, nat_eq, List, [], ◌∷◌, ◌++◌, length, take, get_or, is_some, refl, sym, ap, ◌∙◌, arith, add-one, cond, Some, None}
+use Rattle.std.proofs.Common.{◌≡◌, ◌≢◌, ℕ, zero, suc, ◌+◌, ◌<◌, ◌≤◌, true, false, ◌&&◌, ◌||◌, nat_eq, List, [], ◌∷◌, ◌++◌, length, take}
+use Rattle.std.proofs.Common.{get_or, is_some, refl, sym, ap, ◌∙◌, arith, add-one, cond, Some, None}
 use Rattle.std.specs.Bool.{Decides, beq}
 use Rattle.std.specs.Cmp.{IsEquivalence, decided, booleans_Decides}
 use Rattle.std.specs.Ordering.{int_eq}
@@ -43,12 +44,17 @@ pub key_from : (series : ℕ) (a b : Key) → series_key series a ≡ series_key
 key_from series a b e = λ i. record { level = (e i).level; index = (e i).index }
 
 -- one needed key more
-pub in_series-more : (series : ℕ) (needed : List (Key × Coef)) (i : ℕ) (d : Key × Coef) → i < length needed → in_series series (take (i + 1) needed) ≡ in_series series (take i needed) ++ (series_key series (get_or needed i d).0, (get_or needed i d).1) ∷ []
+pub in_series-more : (series : ℕ) (needed : List (Key × Coef)) (i : ℕ) (d : Key × Coef) → i < length needed
+    → in_series series (take (i + 1) needed) ≡ in_series series (take i needed) ++ (
+      series_key series (get_or needed i d).0,
+      (get_or needed i d).1,
+    ) ∷ []
 in_series-more series needed i d h =
     ap (in_series series) (take_more needed i d h) ∙ map-append (λ e. (series_key series e.0, e.1)) (take i needed) (get_or needed i d ∷ [])
 
 -- none of the first i needed keys is the key
-not_among : (series : ℕ) (needed : List (Key × Coef)) (key : Key) (d : Key × Coef) (i : ℕ) → i ≤ length needed → ((j : ℕ) → j < i → (get_or needed j d).0 ≢ key) → has (in_series series (take i needed)) (series_key series key) ≡ false
+not_among : (series : ℕ) (needed : List (Key × Coef)) (key : Key) (d : Key × Coef) (i : ℕ) → i ≤ length needed
+    → ((j : ℕ) → j < i → (get_or needed j d).0 ≢ key) → has (in_series series (take i needed)) (series_key series key) ≡ false
 not_among series needed key d zero h apart = refl
 not_among series needed key d (suc i) h apart =
     let xs = in_series series (take i needed) in
@@ -64,5 +70,6 @@ not_among series needed key d (suc i) h apart =
     ∙ (λ j. not_among series needed key d i (omega arith) (λ n m. apart n (omega arith)) j || is_some (cond (other j) (Some e.1) None))
 
 -- where no two needed keys are the same, those before the one at i are other keys
-pub is_fresh : (series : ℕ) (needed : List (Key × Coef)) (i : ℕ) (d : Key × Coef) → AreDistinct needed → i < length needed → has (in_series series (take i needed)) (series_key series (get_or needed i d).0) ≡ false
+pub is_fresh : (series : ℕ) (needed : List (Key × Coef)) (i : ℕ) (d : Key × Coef) → AreDistinct needed → i < length needed
+    → has (in_series series (take i needed)) (series_key series (get_or needed i d).0) ≡ false
 is_fresh series needed i d distinct h = not_among series needed (get_or needed i d).0 d i (omega arith) (λ j lt. distinct j i d lt h)

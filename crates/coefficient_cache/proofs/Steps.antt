@@ -1,5 +1,6 @@
 -- One turn of each of the two walks over the needed keys.
-use Rattle.std.proofs.Common.{◌≡◌, ℕ, ◌+◌, ◌<◌, Bool, true, false, cond, not, List, [], ◌∷◌, ◌++◌, length, map, take, get_or, refl, sym, ap, ◌∙◌, subst, reverse, append_assoc, if◌then◌else◌}
+use Rattle.std.proofs.Common.{◌≡◌, ℕ, ◌+◌, ◌<◌, Bool, true, false, cond, not, List, [], ◌∷◌, ◌++◌, length, map, take, get_or, refl, sym, ap}
+use Rattle.std.proofs.Common.{◌∙◌, subst, reverse, append_assoc, if◌then◌else◌}
 use Rattle.std.specs.List.{IsDistinct, filter}
 use Rattle.std.specs.Map.{keys_of}
 use Rattle.std.proofs.lemmas.List.{map-append, length-map, get_or-map}
@@ -34,7 +35,8 @@ topped-moved n pairs all =
     (λ i. take n (reverse (filter (λ e. not (has-moved key_laws key_exact pairs all e.0 i)) all) ++ moved_keys pairs all))
     ∙ ap (take n) (sym (append_assoc (reverse (news pairs all)) (reverse (hits pairs all)) (others pairs all)))
 
-module _ (series : ℕ) (needed : List (Key × Coef)) (i : ℕ) (d : Key × Coef) (distinct : AreDistinct needed) (in_range : i < length needed) where
+module _ (series : ℕ) (needed : List (Key × Coef)) (i : ℕ) (d : Key
+    × Coef) (distinct : AreDistinct needed) (in_range : i < length needed) where
   abbrev key : SeriesKey
   key = series_key series (get_or needed i d).0
 
@@ -53,28 +55,36 @@ module _ (series : ℕ) (needed : List (Key × Coef)) (i : ℕ) (d : Key × Coef
   fresh : has before key ≡ false
   fresh = is_fresh series needed i d distinct in_range
 
-  hit_or_miss : (pairs : List (SeriesKey × Coef)) (n : ℕ) (b : Bool) → IsDistinct key_eq (keys_of pairs) → has pairs key ≡ b → cond b (put_entries key_eq (moved_keys pairs before) n key coef) (moved_keys pairs before) ≡ moved_keys pairs (before ++ (key, coef) ∷ [])
+  hit_or_miss : (pairs : List (SeriesKey × Coef)) (n : ℕ) (b : Bool) → IsDistinct key_eq (keys_of pairs) → has pairs key ≡ b
+      → cond b (put_entries key_eq (moved_keys pairs before) n key coef) (moved_keys pairs before) ≡ moved_keys pairs
+      (before ++ (key, coef) ∷ [])
   hit_or_miss pairs n true apart h = move-hit key_laws key_exact pairs before key coef n apart fresh h
   hit_or_miss pairs n false apart h = move-miss key_laws key_exact pairs before key coef h
 
   -- a needed key that is in the list comes to its front, and nothing moves for another
-  pub hits-step : (pairs : List (SeriesKey × Coef)) (old : Cache) (k : SeriesKey) (new : List (SeriesKey × Coef)) → IsDistinct key_eq (keys_of pairs) → old.pairs ≡ moved_keys pairs before → k ≡ key → new ≡ (if has old.pairs k then put_entries key_eq old.pairs old.capacity k coef else old.pairs) → new ≡ moved_keys pairs after
+  pub hits-step : (pairs : List (SeriesKey × Coef)) (old : Cache) (k : SeriesKey) (new : List (SeriesKey × Coef))
+      → IsDistinct key_eq (keys_of pairs) → old.pairs ≡ moved_keys pairs before → k ≡ key
+      → new ≡ (if has old.pairs k then put_entries key_eq old.pairs old.capacity k coef else old.pairs) → new ≡ moved_keys pairs after
   hits-step pairs old k new apart was is then_ =
       then_
       ∙ (λ j. if has (was j) (is j) then put_entries key_eq (was j) old.capacity (is j) coef else was j)
-      ∙ ap (λ b. cond b (put_entries key_eq (moved_keys pairs before) old.capacity key coef) (moved_keys pairs before)) (has-moved key_laws key_exact pairs before key)
+      ∙ ap (λ b. cond b (put_entries key_eq (moved_keys pairs before) old.capacity key coef) (moved_keys pairs before))
+      (has-moved key_laws key_exact pairs before key)
       ∙ hit_or_miss pairs old.capacity (has pairs key) apart refl
       ∙ ap (moved_keys pairs) (sym more)
 
   -- it is told whether it is new
-  pub flags-step : (pairs : List (SeriesKey × Coef)) (old : Cache) (k : SeriesKey) (there : Bool) (flags : List Bool) → old.pairs ≡ moved_keys pairs before → k ≡ key → there ≡ has old.pairs k → flags ≡ are_new pairs before → flags ++ not there ∷ [] ≡ are_new pairs after
+  pub flags-step : (pairs : List (SeriesKey × Coef)) (old : Cache) (k : SeriesKey) (there : Bool) (flags : List Bool)
+      → old.pairs ≡ moved_keys pairs before → k ≡ key → there ≡ has old.pairs k → flags ≡ are_new pairs before
+      → flags ++ not there ∷ [] ≡ are_new pairs after
   flags-step pairs old k there flags was is tells so_far =
       (λ j. so_far j ++ not ((tells ∙ (λ m. has (was m) (is m)) ∙ has-moved key_laws key_exact pairs before key) j) ∷ [])
       ∙ sym (map-append (λ e. not (has pairs e.0)) before ((key, coef) ∷ []))
       ∙ ap (are_new pairs) (sym more)
 
   -- the flag at i tells whether the key is new
-  pub flag-at : (base : List (SeriesKey × Coef)) (flags : List Bool) (b e : Bool) → flags ≡ are_new base (in_series series needed) → get_or flags i e ≡ b → has base key ≡ not b
+  pub flag-at : (base : List (SeriesKey × Coef)) (flags : List Bool) (b e : Bool) → flags ≡ are_new base (in_series series needed)
+      → get_or flags i e ≡ b → has base key ≡ not b
   flag-at base flags b e are at =
       let g : Key × Coef → SeriesKey × Coef = λ p. (series_key series p.0, p.1) in
       let f : SeriesKey × Coef → Bool = λ p. not (has base p.0) in
@@ -84,11 +94,14 @@ module _ (series : ℕ) (needed : List (Key × Coef)) (i : ℕ) (d : Key × Coef
       not_turned (has base key) b (sym told ∙ at)
 
   -- a new key isn't in front so far
-  pub new-there : (base : List (SeriesKey × Coef)) (old : Cache) (n : ℕ) (k : SeriesKey) → has base key ≡ false → old.pairs ≡ topped_keys n base before → k ≡ key → has old.pairs k ≡ false
+  pub new-there : (base : List (SeriesKey × Coef)) (old : Cache) (n : ℕ) (k : SeriesKey) → has base key ≡ false
+      → old.pairs ≡ topped_keys n base before → k ≡ key → has old.pairs k ≡ false
   new-there base old n k out was is = (λ j. has (was j) (is j)) ∙ topped-new key_laws key_exact n base before key fresh out
 
   -- a new key is put in front
-  pub new-step : (base : List (SeriesKey × Coef)) (old : Cache) (n : ℕ) (k : SeriesKey) (new : List (SeriesKey × Coef)) → 0 < n → has base key ≡ false → old.pairs ≡ topped_keys n base before → old.capacity ≡ n → k ≡ key → new ≡ put_entries key_eq old.pairs old.capacity k coef → new ≡ topped_keys n base after
+  pub new-step : (base : List (SeriesKey × Coef)) (old : Cache) (n : ℕ) (k : SeriesKey) (new : List (SeriesKey × Coef)) → 0 < n
+      → has base key ≡ false → old.pairs ≡ topped_keys n base before → old.capacity ≡ n → k ≡ key
+      → new ≡ put_entries key_eq old.pairs old.capacity k coef → new ≡ topped_keys n base after
   new-step base old n k new some out was size is put =
       put
       ∙ (λ j. put_entries key_eq (was j) (size j) (is j) coef)
@@ -96,5 +109,6 @@ module _ (series : ℕ) (needed : List (Key × Coef)) (i : ℕ) (d : Key × Coef
       ∙ ap (topped_keys n base) (sym more)
 
   -- a key that isn't new is passed over
-  pub old-step : (base : List (SeriesKey × Coef)) (old : List (SeriesKey × Coef)) (n : ℕ) → has base key ≡ true → old ≡ topped_keys n base before → old ≡ topped_keys n base after
+  pub old-step : (base : List (SeriesKey × Coef)) (old : List (SeriesKey × Coef)) (n : ℕ) → has base key ≡ true
+      → old ≡ topped_keys n base before → old ≡ topped_keys n base after
   old-step base old n there was = was ∙ put-none key_laws key_exact base before key coef n there ∙ ap (topped_keys n base) (sym more)

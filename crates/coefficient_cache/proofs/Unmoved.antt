@@ -1,5 +1,6 @@
 -- A list that has the needed pairs in front, in the order in which a view leaves them, stays as it is.
-use Rattle.std.proofs.Common.{◌≡◌, ℕ, ◌≤◌, Bool, true, false, cond, not, ◌&&◌, ◌||◌, List, [], ◌∷◌, ◌++◌, length, take, reverse, Some, is_some, refl, sym, ap, ◌∙◌, subst, append_assoc}
+use Rattle.std.proofs.Common.{◌≡◌, ℕ, ◌≤◌, Bool, true, false, cond, not, ◌&&◌, ◌||◌, List, [], ◌∷◌, ◌++◌, length, take, reverse, Some}
+use Rattle.std.proofs.Common.{is_some, refl, sym, ap, ◌∙◌, subst, append_assoc}
 use Rattle.std.specs.List.{filter, IsDistinct}
 use Rattle.std.specs.Map.{keys_of, lookup}
 use Rattle.std.proofs.lemmas.List.{reverse-append, take_all}
@@ -38,16 +39,19 @@ past (x ∷ xs) ys k d h =
     has-cons (key_eq k) x xs
     ∙ (elim (key_eq k x.0) as (λ b. key_eq k x.0 ≡ b → (b || has xs k) ≡ false) [
       | true ↦ λ t. absurd (
-          let none : has (xs ++ ys) k ≡ false = ap is_some (lookup-none (key_eq k) (xs ++ ys) (none_past_head key_laws k x (xs ++ ys) d t)) in
+          let none : has (xs ++ ys) k ≡ false = ap is_some
+          (lookup-none (key_eq k) (xs ++ ys) (none_past_head key_laws k x (xs ++ ys) d t)) in
           let bad : true ≡ false = sym found ∙ none in cc)
       | false ↦ λ t. on
     ]) refl
 
 -- it is found with its own value
-found : (xs : List (SeriesKey × Coef)) (e : SeriesKey × Coef) (ys : List (SeriesKey × Coef)) → IsDistinct key_eq (keys_of (xs ++ e ∷ ys)) → lookup (key_eq e.0) (xs ++ e ∷ ys) ≡ Some e.1
+found : (xs : List (SeriesKey × Coef)) (e : SeriesKey × Coef) (ys : List (SeriesKey × Coef)) → IsDistinct key_eq (keys_of (xs ++ e ∷ ys))
+    → lookup (key_eq e.0) (xs ++ e ∷ ys) ≡ Some e.1
 found xs e ys d =
     lookup-append (key_eq e.0) xs (e ∷ ys)
-    ∙ ap (λ o. or_else o (lookup (key_eq e.0) (e ∷ ys))) (none_from_is_some (lookup (key_eq e.0) xs) (past xs (e ∷ ys) e.0 d (there [] e ys)))
+    ∙ ap (λ o. or_else o (lookup (key_eq e.0) (e ∷ ys)))
+    (none_from_is_some (lookup (key_eq e.0) xs) (past xs (e ∷ ys) e.0 d (there [] e ys)))
     ∙ ap (λ b. cond b (Some e.1) (lookup (key_eq e.0) ys)) (key_laws.refl e.0)
 
 -- one of the turned pairs is the first of what is behind them
@@ -56,12 +60,14 @@ turn e xs ys = ap (λ l. l ++ ys) (reverse-append (e ∷ []) xs) ∙ append_asso
 
 module _ (pairs : List (SeriesKey × Coef)) (apart : IsDistinct key_eq (keys_of pairs)) where
   -- of pairs that stand in front nothing is sent
-  pub nothing-sent : (series : ℕ) (needed : List (Key × Coef)) (rest : List (SeriesKey × Coef)) → pairs ≡ reverse (in_series series needed) ++ rest → to_send pairs series needed ≡ []
+  pub nothing-sent : (series : ℕ) (needed : List (Key × Coef)) (rest : List (SeriesKey × Coef))
+      → pairs ≡ reverse (in_series series needed) ++ rest → to_send pairs series needed ≡ []
   nothing-sent series [] rest is = refl
   nothing-sent series (e ∷ es) rest is =
       let g : SeriesKey × Coef = (series_key series e.0, e.1) in
       let next = is ∙ turn g (in_series series es) rest in
-      let held : holds pairs g ≡ true = held-found pairs g (ap (lookup (key_eq g.0)) next ∙ found (reverse (in_series series es)) g rest (subst (λ l. IsDistinct key_eq (keys_of l)) next apart)) in
+      let held : holds pairs g ≡ true = held-found pairs g (ap (lookup (key_eq g.0)) next
+      ∙ found (reverse (in_series series es)) g rest (subst (λ l. IsDistinct key_eq (keys_of l)) next apart)) in
       ap (λ b. cond (not b) (e ∷ to_send pairs series es) (to_send pairs series es)) held
       ∙ nothing-sent series es (g ∷ rest) next
 
@@ -90,14 +96,17 @@ own xs (y ∷ ys) =
     ∙ own (xs ++ y ∷ []) ys
 
 -- what stands behind is other than what stands in front
-kept : (front xs ys : List (SeriesKey × Coef)) → IsDistinct key_eq (keys_of (front ++ (xs ++ ys))) → filter (λ e. not (has front e.0)) ys ≡ ys
+kept : (front xs ys : List (SeriesKey × Coef)) → IsDistinct key_eq (keys_of (front ++ (xs ++ ys)))
+    → filter (λ e. not (has front e.0)) ys ≡ ys
 kept front xs [] d = refl
 kept front xs (y ∷ ys) d =
     let q : SeriesKey × Coef → Bool = λ e. not (has front e.0) in
     ap (λ b. cond (not b) (y ∷ filter q ys) (filter q ys)) (past front (xs ++ y ∷ ys) y.0 d (there xs y ys))
-    ∙ ap (λ l. y ∷ l) (kept front (xs ++ y ∷ []) ys (subst (λ l. IsDistinct key_eq (keys_of (front ++ l))) (sym (append_assoc xs (y ∷ []) ys)) d))
+    ∙ ap (λ l. y ∷ l) (kept front (xs ++ y ∷ []) ys
+    (subst (λ l. IsDistinct key_eq (keys_of (front ++ l))) (sym (append_assoc xs (y ∷ []) ys)) d))
 
-pub rest-others : (all rest : List (SeriesKey × Coef)) → IsDistinct key_eq (keys_of (reverse all ++ rest)) → others (reverse all ++ rest) all ≡ rest
+pub rest-others : (all rest : List (SeriesKey × Coef)) → IsDistinct key_eq (keys_of (reverse all ++ rest))
+    → others (reverse all ++ rest) all ≡ rest
 rest-others all rest d =
     let q : SeriesKey × Coef → Bool = λ e. not (has all e.0) in
     filter-append q (reverse all) rest
@@ -106,15 +115,18 @@ rest-others all rest d =
     ∙ kept (reverse all) [] rest d
 
 -- the list after the view is the list before it
-pub unmoved : (capacity : ℕ) (pairs all rest : List (SeriesKey × Coef)) → IsDistinct key_eq (keys_of pairs) → length pairs ≤ capacity → pairs ≡ reverse all ++ rest → renewed capacity pairs all ≡ pairs
+pub unmoved : (capacity : ℕ) (pairs all rest : List (SeriesKey × Coef)) → IsDistinct key_eq (keys_of pairs) → length pairs ≤ capacity
+    → pairs ≡ reverse all ++ rest → renewed capacity pairs all ≡ pairs
 unmoved capacity pairs all rest apart fits is =
-    let behind : others pairs all ≡ rest = ap (λ l. others l all) is ∙ rest-others all rest (subst (λ l. IsDistinct key_eq (keys_of l)) is apart) in
+    let behind : others pairs all ≡ rest = ap (λ l. others l all) is
+    ∙ rest-others all rest (subst (λ l. IsDistinct key_eq (keys_of l)) is apart) in
     (λ i. take capacity (reverse (no-news pairs apart all rest is i) ++ reverse (all-hits pairs apart all rest is i) ++ behind i))
     ∙ ap (take capacity) (sym is)
     ∙ take_all capacity pairs fits
 
 -- two pairs that are compared as equal are the same
-pub same-pair : (k w : SeriesKey) (v u : Coef) (r : Bool) → r ≡ true → r ≡ (key_eq k w && coefficient_eq v u) → ◌≡◌ {A = SeriesKey × Coef} (k, v) (w, u)
+pub same-pair : (k w : SeriesKey) (v u : Coef) (r : Bool) → r ≡ true → r ≡ (key_eq k w && coefficient_eq v u)
+    → ◌≡◌ {A = SeriesKey × Coef} (k, v) (w, u)
 same-pair k w v u r is told =
     let both = (Decides-and (key_eq k w) (coefficient_eq v u) (Decides-key_eq k w) (Decides-coefficient_eq v u)).0 (sym told ∙ is) in
     (λ i. (both.0 i, both.1 i))

@@ -12,7 +12,8 @@ abbrev pub BothEndsKeepOneList : Type 0
 BothEndsKeepOneList =
     (capacity : ℕ) (pairs : List (SeriesKey × Coef)) (series : ℕ) (needed : List (Key × Coef))
     → AreDistinct needed
-    → renewed capacity pairs (in_series series (looked_up (sent_and_held pairs series needed) series (keys_of needed))) ≡ renewed capacity pairs (in_series series needed)
+    → renewed capacity pairs (in_series series (looked_up (sent_and_held pairs series needed) series (keys_of needed))) ≡ renewed capacity
+    pairs (in_series series needed)
 
 -- A cache that has room for all needed keys gives them afterwards.
 abbrev pub NeededKeysAreGiven : Type 0

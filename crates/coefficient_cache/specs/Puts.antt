@@ -1,5 +1,6 @@
 -- Pairs in the order in which they were put into a list, and which of them are held.
-use Rattle.std.specs.Prelude.{ℕ, ◌≡◌, ◌+◌, ◌-◌, ◌<◌, ◌≤◌, Bool, true, false, List, [], ◌∷◌, length, map, take, drop, get_or, Option, None, Some}
+use Rattle.std.specs.Prelude.{ℕ, ◌≡◌, ◌+◌, ◌-◌, ◌<◌, ◌≤◌, Bool, true, false, List, [], ◌∷◌, length, map, take, drop, get_or, Option, None}
+use Rattle.std.specs.Prelude.{Some}
 use Rattle.std.specs.Option.{option_map_or}
 use Rattle.std.specs.Map.{lookup, lookup_entry, remove_entry}
 use Rattle.om3_coeff.specs.declared.coef.Coef.{Coef}
@@ -20,14 +21,16 @@ located places numbers = map (λ e. (e.0, get_or places e.1 0)) numbers
 
 -- each place tells the number of its pair, and the number of each key tells where its pair is
 pub record AreFound (puts : List (Option (SeriesKey × Coef))) (owners places : List ℕ) (numbers : List (SeriesKey × ℕ)) : Type 0 where
-  pub found : (k : SeriesKey) (i : ℕ) → lookup (key_eq k) (located places numbers) ≡ Some i → (v : Coef) × (get_or puts i None ≡ Some (k, v))
+  pub found : (k : SeriesKey) (i : ℕ) → lookup (key_eq k) (located places numbers) ≡ Some i
+      → (v : Coef) × (get_or puts i None ≡ Some (k, v))
   pub placed : (i : ℕ) (k : SeriesKey) (v : Coef) → get_or puts i None ≡ Some (k, v) → lookup (key_eq k) (located places numbers) ≡ Some i
   pub owned : (i : ℕ) (k : SeriesKey) (v : Coef) → get_or puts i None ≡ Some (k, v) → lookup (key_eq k) numbers ≡ Some (get_or owners i 0)
   pub known : (k : SeriesKey) (n : ℕ) → lookup (key_eq k) numbers ≡ Some n → n < length places
   pub long : length owners ≡ length puts
 
 -- the number of this key tells where its pair is
-pub record IsTold (puts : List (Option (SeriesKey × Coef))) (places : List ℕ) (numbers : List (SeriesKey × ℕ)) (key : SeriesKey) : Type 0 where
+pub record IsTold (puts : List (Option (SeriesKey × Coef))) (places : List ℕ) (numbers : List (SeriesKey × ℕ))
+    (key : SeriesKey) : Type 0 where
   pub within : (n : ℕ) → lookup (key_eq key) numbers ≡ Some n → n < length places
   pub held : (n : ℕ) → lookup (key_eq key) numbers ≡ Some n → (v : Coef) × (get_or puts (get_or places n 0) None ≡ Some (key, v))
 
@@ -42,7 +45,8 @@ pub record AreKept (puts : List (Option (SeriesKey × Coef))) (places : List (Se
   pub limit : IsCapacity capacity
 
 -- a list as it is stored
-pub record AreStored (puts : List (Option (SeriesKey × Coef))) (owners places : List ℕ) (numbers : List (SeriesKey × ℕ)) (start capacity : ℕ) : Type 0 where
+pub record AreStored (puts : List (Option (SeriesKey × Coef))) (owners places : List ℕ) (numbers : List (SeriesKey × ℕ))
+    (start capacity : ℕ) : Type 0 where
   pub found : AreFound puts owners places numbers
   pub kept : AreKept puts (located places numbers) start capacity
   pub counted : length (shown puts) ≡ length numbers
@@ -97,7 +101,8 @@ IsStep puts numbers place key true next = (next ≡ place + 1) × ((v : Coef) ×
 IsStep puts numbers place key false next = (next ≡ place) × (lookup (key_eq key) numbers ≡ None)
 
 -- the needed keys whose flag isn't set are those of the places from the start to the end, in order; no other has a number
-pub record IsInLine (puts : List (Option (SeriesKey × Coef))) (numbers : List (SeriesKey × ℕ)) (start series : ℕ) (needed : List (Key × Coef)) (flags : List Bool) : Type 0 where
+pub record IsInLine (puts : List (Option (SeriesKey × Coef))) (numbers : List (SeriesKey × ℕ)) (start series : ℕ)
+    (needed : List (Key × Coef)) (flags : List Bool) : Type 0 where
   pub long : length flags ≡ length needed
   pub fits : start + length (held_of needed flags) ≡ length puts
   pub alike : AreAlike (drop start puts) (put_in series (held_of needed flags))

@@ -1,6 +1,7 @@
 //! A list of pairs, the one that was put last before the others.
 
-ghost use Rattle.std.specs.Prelude.{◌≡◌, ◌==◌, ◌<◌, ◌≤◌, ◌+◌, ◌-◌, ◌∷◌, ◌++◌, ◌&&◌, ℕ, [], true, false, length, take, set, reverse, get_or, if◌then◌else◌, None, Some, IfSome, IfNone, IfOk, OnOk, OnErr, IsTrue, IsFalse};
+ghost use Rattle.std.specs.Prelude.{◌≡◌, ◌==◌, ◌<◌, ◌≤◌, ◌+◌, ◌-◌, ◌∷◌, ◌++◌, ◌&&◌, ℕ, [], true, false, length, take, set, reverse, get_or};
+ghost use Rattle.std.specs.Prelude.{if◌then◌else◌, None, Some, IfSome, IfNone, IfOk, OnOk, OnErr, IsTrue, IsFalse};
 ghost use Rattle.std.specs.List.{IsDistinct};
 ghost use Rattle.std.specs.Option.{option_map};
 ghost use Rattle.std.specs.Map.{keys_of, lookup};

@@ -47,7 +47,8 @@ zeros_full v n i k is less full =
     omega (arith, more_zeros v n i is, times-le n (i + 1) k le, full)
 
 -- the digit at a place comes first of those from there on
-from_here : (n i : ℕ) (ds : List ℕ) → i < length ds → digits_value_after 10 n (drop i ds) ≡ digits_value_after 10 (n * 10 + digit_value (get_or ds i 0)) (drop (i + 1) ds)
+from_here : (n i : ℕ) (ds : List ℕ) → i < length ds
+    → digits_value_after 10 n (drop i ds) ≡ digits_value_after 10 (n * 10 + digit_value (get_or ds i 0)) (drop (i + 1) ds)
 from_here n i ds inside =
     ap (digits_value_after 10 n) (drop-cons ds i 0 inside)
     ∙ ap (λ k. digits_value_after 10 (n * 10 + digit_value (get_or ds i 0)) (drop k ds)) (sym (add-one i))
@@ -59,7 +60,8 @@ more_value n i d whole ds inside digit d_is is =
     let same : d ≡ digit_value (get_or ds i 0) = omega (arith, digit_value_digit (get_or ds i 0) digit, digit, d_is) in
     ap (λ x. digits_value_after 10 (n * 10 + x) (drop (i + 1) ds)) same ∙ sym (from_here n i ds inside) ∙ is
 
-pub more_digits : (i : ℕ) (ds : List ℕ) → i < length ds → AllDigits 10 (take i ds) → IsInRange 48 57 (get_or ds i 0) → AllDigits 10 (take (i + 1) ds)
+pub more_digits : (i : ℕ) (ds : List ℕ) → i < length ds → AllDigits 10 (take i ds) → IsInRange 48 57 (get_or ds i 0)
+    → AllDigits 10 (take (i + 1) ds)
 more_digits i ds inside digits digit =
     let small : digit_value (get_or ds i 0) < 10 = omega (arith, digit_value_digit (get_or ds i 0) digit, digit) in
     digits_more 10 ds i inside digits small

@@ -54,14 +54,16 @@ no_fault scale f (Point t v) cause.Value says fails = fails.2 v says.1
 no_fault scale f (Skip t) cause.Value says fails = fails.1 says.1
 no_fault scale f Header cause.Value says fails = header_time f.time fails.0.0 says.0 fails.0.1
 
-say_one : (scale : ℕ) (o : Option Fields) (r s : Row) → IsSomeAnd o (λ f. FieldsSay scale f r) → IsSomeAnd o (λ f. FieldsSay scale f s) → r ≡ s
+say_one : (scale : ℕ) (o : Option Fields) (r s : Row) → IsSomeAnd o (λ f. FieldsSay scale f r) → IsSomeAnd o (λ f. FieldsSay scale f s)
+    → r ≡ s
 say_one scale None r s one other = absurd one
 say_one scale (Some f) r s one other = one_say scale f r s one other
 
 pub one_row : (scale : ℕ) (line : List ℕ) (r s : Row) → Says scale line r → Says scale line s → r ≡ s
 one_row scale line r s one other = say_one scale (fields_of_line line) r s one other
 
-say_or_fail : (scale : ℕ) (o : Option Fields) (r : Row) (why : RowCause) → IsSomeAnd o (λ f. FieldsSay scale f r) → IsSomeAnd o (λ f. FieldsFail scale f why) → ⊥
+say_or_fail : (scale : ℕ) (o : Option Fields) (r : Row) (why : RowCause) → IsSomeAnd o (λ f. FieldsSay scale f r)
+    → IsSomeAnd o (λ f. FieldsFail scale f why) → ⊥
 say_or_fail scale None r why says fails = says
 say_or_fail scale (Some f) r why says fails = no_fault scale f r why says fails
 
@@ -78,7 +80,8 @@ none_fails : (scale : ℕ) (o : Option Fields) (why : RowCause) → IsSomeAnd o 
 none_fails scale None why fails none = fails
 none_fails scale (Some f) why fails none = cc
 
-time_or_value : (scale : ℕ) (o : Option Fields) → IsSomeAnd o (λ f. FieldsFail scale f cause.Time) → IsSomeAnd o (λ f. FieldsFail scale f cause.Value) → ⊥
+time_or_value : (scale : ℕ) (o : Option Fields) → IsSomeAnd o (λ f. FieldsFail scale f cause.Time)
+    → IsSomeAnd o (λ f. FieldsFail scale f cause.Value) → ⊥
 time_or_value scale None time value = time
 time_or_value scale (Some f) time value = time.1 value.0.0 value.0.1
 

@@ -1,5 +1,7 @@
 -- A text's digits before its first point and behind it.
-use Rattle.std.proofs.Common.{◌≡◌, ℕ, ℤ, pos, ◌-ℤ◌, unsigned_abs, ◌+◌, ◌*◌, ◌-◌, ◌^◌, ◌<◌, ◌≤◌, suc, false, not, List, [], ◌∷◌, ◌++◌, length, take, drop, get_or, Option, None, Some, IfSome, IfNone, refl, ap, sym, subst, ◌∙◌, arith, add-one, length-append, length-drop, inl, inr}
+use Rattle.std.proofs.Common.{◌≡◌, ℕ, ℤ, pos, ◌-ℤ◌, unsigned_abs, ◌+◌, ◌*◌, ◌-◌, ◌^◌, ◌<◌, ◌≤◌, suc, false, not, List, [], ◌∷◌, ◌++◌}
+use Rattle.std.proofs.Common.{length, take, drop, get_or, Option, None, Some, IfSome, IfNone, refl, ap, sym, subst, ◌∙◌, arith, add-one}
+use Rattle.std.proofs.Common.{length-append, length-drop, inl, inr}
 use Rattle.std.specs.List.{before_first, after_first, position_or_len}
 use Rattle.std.specs.Int.{IsInRange}
 use Rattle.std.specs.Str.Parse.{AllDigits, IsNumeral, digits_value, digits_value_after}
@@ -58,7 +60,8 @@ point_more (p ∷ ps) some = refl
 is_a_point : (c : ℕ) → not (is_point c) ≡ false → c ≡ 46
 is_a_point c point = grind (arith, nat_tests, point)
 
-with_a_point : (text : List ℕ) (k : ℕ) → k ≡ position_or_len is_point text → k < length text → (k + 1 ≡ length text → ⊥) → text ≡ take k text ++ point_and (drop (k + 1) text)
+with_a_point : (text : List ℕ) (k : ℕ) → k ≡ position_or_len is_point text → k < length text → (k + 1 ≡ length text → ⊥)
+    → text ≡ take k text ++ point_and (drop (k + 1) text)
 with_a_point text k is less more =
     let stops : not (is_point (get_or text (position_or_len is_point text) 0)) ≡ false =
     prefix_len_stops (λ x. not (is_point x)) text 0 (omega (arith, is, less)) in
@@ -88,16 +91,24 @@ pub record IsParted (scale : ℕ) (w p : List ℕ) (n : ℕ) : Type 0 where
   pub value : n ≡ digits_value 10 w * 10 ^ scale + digits_value 10 p * 10 ^ (scale - length p)
   pub short : n < 10 ^ 19
 
-pub of_spelling : (scale : ℕ) (text : List ℕ) (n : ℕ) (w p : List ℕ) → w ≡ before_first is_point text → p ≡ after_first is_point text → SpellsScaled scale text n
+pub of_spelling : (scale : ℕ) (text : List ℕ) (n : ℕ) (w p : List ℕ) → w ≡ before_first is_point text → p ≡ after_first is_point text
+    → SpellsScaled scale text n
     → IsParted scale w p n
 of_spelling scale text n w p w_is p_is s =
     let same_w : s.whole ≡ w = sym (w_is ∙ ap (before_first is_point) s.parts ∙ before_is s.whole s.places s.whole_digits.1) in
     let same_p : s.places ≡ p = sym (p_is ∙ ap (after_first is_point) s.parts ∙ after_first_is s.whole s.places s.whole_digits.1) in
     let P : List ℕ → Type 0 = λ x. IsParted scale x s.places n in
     let Q : List ℕ → Type 0 = λ x. IsParted scale w x n in
-    subst Q same_p (subst P same_w (record { whole = s.whole_digits; places = s.place_digits; few = s.few; value = s.value; short = s.short }))
+    subst Q same_p (subst P same_w (record {
+      whole = s.whole_digits;
+      places = s.place_digits;
+      few = s.few;
+      value = s.value;
+      short = s.short;
+    }))
 
-pub to_spelling : (scale : ℕ) (text : List ℕ) (n : ℕ) (w p : List ℕ) → w ≡ before_first is_point text → p ≡ after_first is_point text → (EndsInPoint text → ⊥) → IsParted scale w p n
+pub to_spelling : (scale : ℕ) (text : List ℕ) (n : ℕ) (w p : List ℕ) → w ≡ before_first is_point text → p ≡ after_first is_point text
+    → (EndsInPoint text → ⊥) → IsParted scale w p n
     → SpellsScaled scale text n
 to_spelling scale text n w p w_is p_is more parted = record {
   whole = w;
@@ -117,7 +128,8 @@ never_ends_in_point scale text n s ends =
 
 -- all digits as one number, and zeros for the places that are missing
 pub one_number : (w p : List ℕ) (scale : ℕ) → length p ≤ scale
-    → digits_value_after 10 (digits_value 10 w) p * 10 ^ (scale - length p) ≡ digits_value 10 w * 10 ^ scale + digits_value 10 p * 10 ^ (scale - length p)
+    → digits_value_after 10 (digits_value 10 w) p * 10 ^ (scale - length p) ≡ digits_value 10 w * 10 ^ scale + digits_value 10 p * 10 ^
+    (scale - length p)
 one_number w p scale few =
     let front = digits_value 10 w in
     let k : ℕ = scale - length p in
@@ -135,33 +147,49 @@ grown n k =
 
 pub digits_short : (scale : ℕ) (w p : List ℕ) (n : ℕ) → IsParted scale w p n → digits_value_after 10 (digits_value 10 w) p < 10 ^ 19
 digits_short scale w p n parted =
-    omega (arith, parted.value, parted.short, one_number w p scale parted.few, grown (digits_value_after 10 (digits_value 10 w) p) (scale - length p))
+    omega (
+      arith,
+      parted.value,
+      parted.short,
+      one_number w p scale parted.few,
+      grown (digits_value_after 10 (digits_value 10 w) p) (scale - length p),
+    )
 
 pub whole_short : (scale : ℕ) (w p : List ℕ) (n : ℕ) → IsParted scale w p n → digits_value 10 w < 10 ^ 19
 whole_short scale w p n parted = omega (arith, digits_short scale w p n parted, after-ge (digits_value 10 w) p)
 
-pub scaled_short : (scale count value : ℕ) (w p : List ℕ) (n : ℕ) → IsParted scale w p n → count ≡ scale - length p → value ≡ digits_value_after 10 (digits_value 10 w) p
+pub scaled_short : (scale count value : ℕ) (w p : List ℕ) (n : ℕ) → IsParted scale w p n → count ≡ scale - length p
+    → value ≡ digits_value_after 10 (digits_value 10 w) p
     → value * 10 ^ count < 10 ^ 19
 scaled_short scale count value w p n parted count_is value_is =
     let same : value * 10 ^ count ≡ digits_value_after 10 (digits_value 10 w) p * 10 ^ (scale - length p) =
     ap (λ z. value * 10 ^ z) count_is ∙ ap (λ v. v * 10 ^ (scale - length p)) value_is in
     omega (arith, same, parted.value, parted.short, one_number w p scale parted.few)
 
-pub parted_value : (scale count value : ℕ) (w p : List ℕ) (n : ℕ) → length p ≤ scale → count ≡ scale - length p → value ≡ digits_value_after 10 (digits_value 10 w) p
+pub parted_value : (scale count value : ℕ) (w p : List ℕ) (n : ℕ) → length p ≤ scale → count ≡ scale - length p
+    → value ≡ digits_value_after 10 (digits_value 10 w) p
     → n ≡ value * 10 ^ count → n ≡ digits_value 10 w * 10 ^ scale + digits_value 10 p * 10 ^ (scale - length p)
 parted_value scale count value w p n few count_is value_is is =
     is ∙ ap (λ z. value * 10 ^ z) count_is ∙ ap (λ v. v * 10 ^ (scale - length p)) value_is ∙ one_number w p scale few
 
 -- what is found, and what isn't, in the words of a spelling
-pub found_scaled : (scale : ℕ) (text w p : List ℕ) (value count : ℕ) (r : Option ℕ) → w ≡ before_first is_point text → p ≡ after_first is_point text → (EndsInPoint text → ⊥)
+pub found_scaled : (scale : ℕ) (text w p : List ℕ) (value count : ℕ) (r : Option ℕ) → w ≡ before_first is_point text
+    → p ≡ after_first is_point text → (EndsInPoint text → ⊥)
     → IsNumeral 10 w → AllDigits 10 p → length p ≤ scale → count ≡ scale - length p → value ≡ digits_value_after 10 (digits_value 10 w) p
     → IfSome r (λ n. (n ≡ value * 10 ^ count) × (n < 10 ^ 19)) → IfSome r (λ n. SpellsScaled scale text n)
 found_scaled scale text w p value count None w_is p_is more whole places few count_is value_is found = tt
 found_scaled scale text w p value count (Some n) w_is p_is more whole places few count_is value_is found =
     to_spelling scale text n w p w_is p_is more
-    (record { whole = whole; places = places; few = few; value = parted_value scale count value w p n few count_is value_is found.0; short = found.1 })
+    (record {
+      whole = whole;
+      places = places;
+      few = few;
+      value = parted_value scale count value w p n few count_is value_is found.0;
+      short = found.1;
+    })
 
-pub none_scaled : (scale : ℕ) (text w p : List ℕ) (value count : ℕ) (r : Option ℕ) → w ≡ before_first is_point text → p ≡ after_first is_point text
+pub none_scaled : (scale : ℕ) (text w p : List ℕ) (value count : ℕ) (r : Option ℕ) → w ≡ before_first is_point text
+    → p ≡ after_first is_point text
     → count ≡ scale - length p → value ≡ digits_value_after 10 (digits_value 10 w) p
     → IfNone r (10 ^ 19 ≤ value * 10 ^ count) → IfNone r ((n : ℕ) → SpellsScaled scale text n → ⊥)
 none_scaled scale text w p value count None w_is p_is count_is value_is none = λ n s.
@@ -177,7 +205,8 @@ no_minus scale rest n s = first_byte s.whole s.places rest s.whole_digits s.part
       omega (arith, digit_at (c ∷ cs) 0 numeral.1 (omega arith), ap (λ xs. get_or xs 0 0) parts)
 
 -- what spells no number, where a `-` stands in front and where none does
-pub none_negative : (scale : ℕ) (text rest : List ℕ) → text ≡ 45 ∷ rest → ((n : ℕ) → SpellsScaled scale rest n → ⊥) → (z : ℤ) → SpellsDecimal scale text z → ⊥
+pub none_negative : (scale : ℕ) (text rest : List ℕ) → text ≡ 45 ∷ rest → ((n : ℕ) → SpellsScaled scale rest n → ⊥) → (z : ℤ)
+    → SpellsDecimal scale text z → ⊥
 none_negative scale text rest begins none z (inl (n, s, is)) =
     let P : List ℕ → Type 0 = λ x. SpellsScaled scale x n in
     no_minus scale rest n (subst P begins s)
@@ -186,7 +215,8 @@ none_negative scale text rest begins none z (inr (n, other, other_begins, s, is)
     let same : other ≡ rest = ap (drop 1) (sym other_begins ∙ begins) in
     none n (subst P same s)
 
-pub none_positive : (scale : ℕ) (text : List ℕ) → ((rest : List ℕ) → text ≡ 45 ∷ rest → ⊥) → ((n : ℕ) → SpellsScaled scale text n → ⊥) → (z : ℤ) → SpellsDecimal scale text z → ⊥
+pub none_positive : (scale : ℕ) (text : List ℕ) → ((rest : List ℕ) → text ≡ 45 ∷ rest → ⊥) → ((n : ℕ) → SpellsScaled scale text n → ⊥)
+    → (z : ℤ) → SpellsDecimal scale text z → ⊥
 none_positive scale text unsigned none z (inl (n, s, is)) = none n s
 none_positive scale text unsigned none z (inr (n, rest, begins, s, is)) = unsigned rest begins
 

@@ -1,5 +1,6 @@
 -- How `csv` reads a line without quotes.
-use Rattle.std.proofs.Common.{◌≡◌, ℕ, suc, true, false, List, [], ◌∷◌, ◌++◌, Option, None, Some, refl, ap, sym, subst, ◌∙◌, append_assoc, arith}
+use Rattle.std.proofs.Common.{◌≡◌, ℕ, suc, true, false, List, [], ◌∷◌, ◌++◌, Option, None, Some, refl, ap, sym, subst, ◌∙◌, append_assoc}
+use Rattle.std.proofs.Common.{arith}
 use Rattle.std.specs.List.{AllPass}
 use Rattle.std.specs.Prelude.{option_map, option_and_then, if◌then◌else◌, slice_index, ◌≢◌, ◌==◌}
 use Rattle.std.proofs.lemmas.Bool.Decides.{nat_tests}
@@ -17,10 +18,12 @@ use Rattle.csv_load.proofs.RowLemmas.{fields_are}
 -- what a byte does, by what the machine says of it
 by_step : (s : State) (c : ℕ) (fs : List (List ℕ)) (f rest : List ℕ) (p : State × Action) → step default_config s c ≡ p
     → next_record default_config s fs f (c ∷ rest)
-    ≡ (if is_end p.1 then Some (fields_after p.1 fs f, p.0, rest) else next_record default_config p.0 (fields_after p.1 fs f) (field_after p.1 c f) rest)
+    ≡ (if is_end p.1 then Some (fields_after p.1 fs f, p.0, rest)
+    else next_record default_config p.0 (fields_after p.1 fs f) (field_after p.1 c f) rest)
 unfolding next_record
 by_step s c fs f rest p e =
-    ap (λ q. if is_end q.1 then Some (fields_after q.1 fs f, q.0, rest) else next_record default_config q.0 (fields_after q.1 fs f) (field_after q.1 c f) rest) e
+    ap (λ q. if is_end q.1 then Some (fields_after q.1 fs f, q.0, rest)
+    else next_record default_config q.0 (fields_after q.1 fs f) (field_after q.1 c f) rest) e
 
 -- a plain byte joins its field
 in_field : (c : ℕ) → is_plain c ≡ true → step default_config st.InField c ≡ (st.InField, act.Copy)
@@ -98,7 +101,8 @@ pub plain_fields : (time value : List ℕ) → AllPass is_plain time → AllPass
 plain_fields time value plain_time plain_value other =
     let line : List ℕ = time ++ 44 ∷ value in
     let same = unmarked line other in
-    let first = ap (next_record default_config st.StartRecord [] []) same ∙ first_field time value plain_time ∙ last_field time value plain_value in
+    let first = ap (next_record default_config st.StartRecord [] []) same ∙ first_field time value plain_time
+    ∙ last_field time value plain_value in
     let record_is = one_record (strip_bom line) (time ∷ value ∷ [], st.StartRecord, []) first nothing_left in
     fields_are line (time ∷ value ∷ []) time value (trimmed time) (trimmed value) record_is refl refl refl
 
@@ -107,7 +111,8 @@ pub plain_fields_ended : (time value : List ℕ) → AllPass is_plain time → A
 plain_fields_ended time value plain_time plain_value other =
     let line : List ℕ = time ++ 44 ∷ (value ++ 13 ∷ []) in
     let same = unmarked line (front time other) in
-    let first = ap (next_record default_config st.StartRecord [] []) same ∙ first_field time (value ++ 13 ∷ []) plain_time ∙ ended_field time value plain_value in
+    let first = ap (next_record default_config st.StartRecord [] []) same ∙ first_field time (value ++ 13 ∷ []) plain_time
+    ∙ ended_field time value plain_value in
     let record_is = one_record (strip_bom line) (time ∷ value ∷ [], st.AfterCr, []) first nothing_behind in
     fields_are line (time ∷ value ∷ []) time value (trimmed time) (trimmed value) record_is refl refl refl
   where
@@ -123,11 +128,13 @@ drops_mark line = refl
 pub marked_fields : (line : List ℕ) → slice_index line 0 ≢ 0xEF → fields_of_line (0xEF ∷ 0xBB ∷ 0xBF ∷ line) ≡ fields_of_line line
 unfolding fields_of_line
 marked_fields line other =
-    let fields : List ℕ → Option Fields = λ text. option_map trimmed_fields (option_and_then pair_of (only_record (records default_config text))) in
+    let fields : List ℕ → Option Fields = λ text. option_map trimmed_fields
+    (option_and_then pair_of (only_record (records default_config text))) in
     ap fields (drops_mark line ∙ sym (unmarked line other))
 
 -- the fields of such a line, found at its comma
-pub plain_line : (line time value : List ℕ) → line ≡ time ++ 44 ∷ value → AllPass is_plain time → AllPass is_plain value → slice_index line 0 ≢ 0xEF
+pub plain_line : (line time value : List ℕ) → line ≡ time ++ 44 ∷ value → AllPass is_plain time → AllPass is_plain value
+    → slice_index line 0 ≢ 0xEF
     → fields_of_line line ≡ Some (record { time = trimmed time; value = trimmed value })
 plain_line line time value is plain_time plain_value other =
     let P : List ℕ → Type 0 = λ l. slice_index l 0 ≢ 0xEF in

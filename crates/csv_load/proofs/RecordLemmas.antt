@@ -1,7 +1,8 @@
 -- The records of a text by the next record, and what a reader's reads say of it.
 use Rattle.std.proofs.Common.{◌≡◌, ℕ, suc, Bool, true, false, List, [], ◌∷◌, length, Option, None, Some, refl, ap, subst, ◌∙◌, add-one}
 use Rattle.csv.specs.Machine.{Read, next_record}
-use Rattle.csv.specs.Reading.{records, records_from, records_next, default_config, NextIs, ReadsNext, ReadRecord, source_of, pending_of, reader_config, reader_state, reader_source}
+use Rattle.csv.specs.Reading.{records, records_from, records_next, default_config, NextIs, ReadsNext, ReadRecord, source_of, pending_of}
+use Rattle.csv.specs.Reading.{reader_config, reader_state, reader_source}
 use Rattle.csv.specs.Records.{field_at}
 use Rattle.csv.specs.declared.reader.Reader.{Reader}
 use Rattle.csv.specs.declared.parser.Config.{Config}
@@ -10,7 +11,8 @@ use Rattle.csv.specs.declared.parser.State.TheVariants as st
 use Rattle.csv_load.specs.Fields.{only_record, pair_of}
 
 -- the records of a text are the next one and those behind it
-records_is : (xs : List ℕ) → records default_config xs ≡ records_next (records_from default_config (length xs)) (next_record default_config st.StartRecord [] [] xs)
+records_is : (xs : List ℕ) → records default_config xs ≡ records_next (records_from default_config (length xs))
+    (next_record default_config st.StartRecord [] [] xs)
 unfolding records_from
 records_is xs = ap (λ n. records_from default_config n st.StartRecord xs) (add-one (length xs))
 
@@ -27,13 +29,15 @@ behind [] p first = cc
 behind (x ∷ rest) p first =
     (length rest, records_is (x ∷ rest) ∙ ap (records_next (records_from default_config (suc (length rest)))) first)
 
-pub one_record : (xs : List ℕ) (p : Read) → next_record default_config st.StartRecord [] [] xs ≡ Some p → next_record default_config p.1 [] [] p.2 ≡ None
+pub one_record : (xs : List ℕ) (p : Read) → next_record default_config st.StartRecord [] [] xs ≡ Some p
+    → next_record default_config p.1 [] [] p.2 ≡ None
     → only_record (records default_config xs) ≡ Some p.0
 one_record xs p first none =
     let b = behind xs p first in
     ap only_record b.1 ∙ ap (λ o. only_record (p.0 ∷ records_next (records_from default_config b.0) o)) none
 
-pub two_records : (xs : List ℕ) (p q : Read) → next_record default_config st.StartRecord [] [] xs ≡ Some p → next_record default_config p.1 [] [] p.2 ≡ Some q
+pub two_records : (xs : List ℕ) (p q : Read) → next_record default_config st.StartRecord [] [] xs ≡ Some p
+    → next_record default_config p.1 [] [] p.2 ≡ Some q
     → only_record (records default_config xs) ≡ None
 two_records xs p q first second =
     let b = behind xs p first in
@@ -48,12 +52,14 @@ some_next : (o : Option Read) (fields : List (List ℕ)) (s : State) (ys : List 
 some_next None fields s ys h = cc
 some_next (Some (f, t, zs)) fields s ys h = cc
 
-pub reads_none : (cfg : Config) (s s2 : State) (xs : List ℕ) (after : Option (List ℕ)) (fields : List (List ℕ)) → ReadsNext cfg s (Some xs) after false fields s2
+pub reads_none : (cfg : Config) (s s2 : State) (xs : List ℕ) (after : Option (List ℕ)) (fields : List (List ℕ))
+    → ReadsNext cfg s (Some xs) after false fields s2
     → next_record cfg s [] [] xs ≡ None
 reads_none cfg s s2 xs None fields h = absurd h
 reads_none cfg s s2 xs (Some ys) fields h = none_next (next_record cfg s [] [] xs) fields s2 ys h
 
-pub reads_some : (cfg : Config) (s s2 : State) (xs : List ℕ) (after : Option (List ℕ)) (fields : List (List ℕ)) → ReadsNext cfg s (Some xs) after true fields s2
+pub reads_some : (cfg : Config) (s s2 : State) (xs : List ℕ) (after : Option (List ℕ)) (fields : List (List ℕ))
+    → ReadsNext cfg s (Some xs) after true fields s2
     → (ys : List ℕ) × (after ≡ Some ys) × (next_record cfg s [] [] xs ≡ Some (fields, s2, ys))
 reads_some cfg s s2 xs None fields h = absurd h
 reads_some cfg s s2 xs (Some ys) fields h = (ys, refl, some_next (next_record cfg s [] [] xs) fields s2 ys h)
@@ -85,11 +91,13 @@ pub record Starts {R : Type 0} (rem : R → Option (List ℕ)) (a : Reader R) (x
   pub source : source_of rem a ≡ Some xs
 
 -- what is left after a read is what the next one reads
-source_is : {R : Type 0} (rem : R → Option (List ℕ)) (a b : Reader R) (found : Bool) (fields : List (List ℕ)) → ReadRecord rem a b found fields
+source_is : {R : Type 0} (rem : R → Option (List ℕ)) (a b : Reader R) (found : Bool) (fields : List (List ℕ))
+    → ReadRecord rem a b found fields
     → source_of rem b ≡ pending_of (rem (reader_source b)) b
 source_is rem a b found fields r = rw r.1 refl
 
-first_read : {R : Type 0} (rem : R → Option (List ℕ)) (a b : Reader R) (xs : List ℕ) (found : Bool) (fields : List (List ℕ)) → Starts rem a xs → ReadRecord rem a b found fields
+first_read : {R : Type 0} (rem : R → Option (List ℕ)) (a b : Reader R) (xs : List ℕ) (found : Bool) (fields : List (List ℕ))
+    → Starts rem a xs → ReadRecord rem a b found fields
     → ReadsNext default_config st.StartRecord (Some xs) (pending_of (rem (reader_source b)) b) found fields (reader_state b)
 first_read rem a b xs found fields starts r =
     let after = pending_of (rem (reader_source b)) b in
@@ -98,7 +106,8 @@ first_read rem a b xs found fields starts r =
     let S : Option (List ℕ) → Type 0 = λ x. ReadsNext default_config st.StartRecord x after found fields (reader_state b) in
     subst S starts.source (subst Q starts.state (subst P starts.config r.0))
 
-second_read : {R : Type 0} (rem : R → Option (List ℕ)) (a b d : Reader R) (xs ys : List ℕ) (found : Bool) (f g : List (List ℕ)) → Starts rem a xs → ReadRecord rem a b true f
+second_read : {R : Type 0} (rem : R → Option (List ℕ)) (a b d : Reader R) (xs ys : List ℕ) (found : Bool) (f g : List (List ℕ))
+    → Starts rem a xs → ReadRecord rem a b true f
     → pending_of (rem (reader_source b)) b ≡ Some ys → ReadRecord rem b d found g
     → ReadsNext default_config (reader_state b) (Some ys) (pending_of (rem (reader_source d)) d) found g (reader_state d)
 second_read rem a b d xs ys found f g starts one left two =
@@ -107,33 +116,43 @@ second_read rem a b d xs ys found f g starts one left two =
     let S : Option (List ℕ) → Type 0 = λ x. ReadsNext default_config (reader_state b) x after found g (reader_state d) in
     subst S (source_is rem a b true f one ∙ left) (subst P (one.2 ∙ starts.config) two.0)
 
-none_read : {R : Type 0} (rem : R → Option (List ℕ)) (a b : Reader R) (xs : List ℕ) (f : List (List ℕ)) → Starts rem a xs → ReadRecord rem a b false f
+none_read : {R : Type 0} (rem : R → Option (List ℕ)) (a b : Reader R) (xs : List ℕ) (f : List (List ℕ)) → Starts rem a xs
+    → ReadRecord rem a b false f
     → only_record (records default_config xs) ≡ None
 none_read rem a b xs f starts one =
-    no_record xs (reads_none default_config st.StartRecord (reader_state b) xs (pending_of (rem (reader_source b)) b) f (first_read rem a b xs false f starts one))
+    no_record xs (reads_none default_config st.StartRecord (reader_state b) xs (pending_of (rem (reader_source b)) b) f
+    (first_read rem a b xs false f starts one))
 
-one_read : {R : Type 0} (rem : R → Option (List ℕ)) (a b d : Reader R) (xs : List ℕ) (f g : List (List ℕ)) → Starts rem a xs → ReadRecord rem a b true f → ReadRecord rem b d false g
+one_read : {R : Type 0} (rem : R → Option (List ℕ)) (a b d : Reader R) (xs : List ℕ) (f g : List (List ℕ)) → Starts rem a xs
+    → ReadRecord rem a b true f → ReadRecord rem b d false g
     → only_record (records default_config xs) ≡ Some f
 one_read rem a b d xs f g starts one two =
-    let some = reads_some default_config st.StartRecord (reader_state b) xs (pending_of (rem (reader_source b)) b) f (first_read rem a b xs true f starts one) in
-    let none = reads_none default_config (reader_state b) (reader_state d) some.0 (pending_of (rem (reader_source d)) d) g (second_read rem a b d xs some.0 false f g starts one some.1 two) in
+    let some = reads_some default_config st.StartRecord (reader_state b) xs (pending_of (rem (reader_source b)) b) f
+    (first_read rem a b xs true f starts one) in
+    let none = reads_none default_config (reader_state b) (reader_state d) some.0 (pending_of (rem (reader_source d)) d) g
+    (second_read rem a b d xs some.0 false f g starts one some.1 two) in
     one_record xs (f, reader_state b, some.0) some.2 none
 
-two_read : {R : Type 0} (rem : R → Option (List ℕ)) (a b d : Reader R) (xs : List ℕ) (f g : List (List ℕ)) → Starts rem a xs → ReadRecord rem a b true f → ReadRecord rem b d true g
+two_read : {R : Type 0} (rem : R → Option (List ℕ)) (a b d : Reader R) (xs : List ℕ) (f g : List (List ℕ)) → Starts rem a xs
+    → ReadRecord rem a b true f → ReadRecord rem b d true g
     → only_record (records default_config xs) ≡ None
 two_read rem a b d xs f g starts one two =
-    let some = reads_some default_config st.StartRecord (reader_state b) xs (pending_of (rem (reader_source b)) b) f (first_read rem a b xs true f starts one) in
-    let more = reads_some default_config (reader_state b) (reader_state d) some.0 (pending_of (rem (reader_source d)) d) g (second_read rem a b d xs some.0 true f g starts one some.1 two) in
+    let some = reads_some default_config st.StartRecord (reader_state b) xs (pending_of (rem (reader_source b)) b) f
+    (first_read rem a b xs true f starts one) in
+    let more = reads_some default_config (reader_state b) (reader_state d) some.0 (pending_of (rem (reader_source d)) d) g
+    (second_read rem a b d xs some.0 true f g starts one some.1 two) in
     two_records xs (f, reader_state b, some.0) (g, reader_state d, more.0) some.2 more.2
 
 -- the same by what the reads answered
-pub none_by : {R : Type 0} (rem : R → Option (List ℕ)) (a b : Reader R) (xs : List ℕ) (found : Bool) (f : List (List ℕ)) → Starts rem a xs → found ≡ false → ReadRecord rem a b found f
+pub none_by : {R : Type 0} (rem : R → Option (List ℕ)) (a b : Reader R) (xs : List ℕ) (found : Bool) (f : List (List ℕ)) → Starts rem a xs
+    → found ≡ false → ReadRecord rem a b found f
     → only_record (records default_config xs) ≡ None
 none_by rem a b xs found f starts is one =
     let P : Bool → Type 0 = λ x. ReadRecord rem a b x f in
     none_read rem a b xs f starts (subst P is one)
 
-pub one_by : {R : Type 0} (rem : R → Option (List ℕ)) (a b d : Reader R) (xs : List ℕ) (found more : Bool) (f g : List (List ℕ)) → Starts rem a xs
+pub one_by : {R : Type 0} (rem : R → Option (List ℕ)) (a b d : Reader R) (xs : List ℕ) (found more : Bool) (f g : List (List ℕ))
+    → Starts rem a xs
     → found ≡ true → ReadRecord rem a b found f → more ≡ false → ReadRecord rem b d more g
     → only_record (records default_config xs) ≡ Some f
 one_by rem a b d xs found more f g starts is one none two =
@@ -141,7 +160,8 @@ one_by rem a b d xs found more f g starts is one none two =
     let Q : Bool → Type 0 = λ x. ReadRecord rem b d x g in
     one_read rem a b d xs f g starts (subst P is one) (subst Q none two)
 
-pub two_by : {R : Type 0} (rem : R → Option (List ℕ)) (a b d : Reader R) (xs : List ℕ) (found more : Bool) (f g : List (List ℕ)) → Starts rem a xs
+pub two_by : {R : Type 0} (rem : R → Option (List ℕ)) (a b d : Reader R) (xs : List ℕ) (found more : Bool) (f g : List (List ℕ))
+    → Starts rem a xs
     → found ≡ true → ReadRecord rem a b found f → more ≡ true → ReadRecord rem b d more g
     → only_record (records default_config xs) ≡ None
 two_by rem a b d xs found more f g starts is one some two =

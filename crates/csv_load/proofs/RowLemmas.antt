@@ -23,7 +23,8 @@ pub no_pair : (line : List ℕ) (fs : List (List ℕ)) → record_of line ≡ So
 unfolding fields_of_line
 no_pair line fs is none = ap (λ o. option_map trimmed_fields (option_and_then pair_of o)) is ∙ ap (option_map trimmed_fields) none
 
-pub fields_are : (line : List ℕ) (fs : List (List ℕ)) (t v time value : List ℕ) → record_of line ≡ Some fs → Some (record { time = t; value = v }) ≡ pair_of fs
+pub fields_are : (line : List ℕ) (fs : List (List ℕ)) (t v time value : List ℕ) → record_of line ≡ Some fs
+    → Some (record { time = t; value = v }) ≡ pair_of fs
     → time ≡ trimmed t → value ≡ trimmed v → fields_of_line line ≡ Some (record { time = time; value = value })
 unfolding fields_of_line
 fields_are line fs t v time value is pair time_is value_is =
@@ -33,12 +34,14 @@ fields_are line fs t v time value is pair time_is value_is =
     ∙ ap (λ a. Some (build a (trimmed v))) (sym time_is)
     ∙ ap (λ b. Some (build time b)) (sym value_is)
 
-pub says_at : (scale : ℕ) (line : List ℕ) (fields : Fields) (row : Row) → fields_of_line line ≡ Some fields → FieldsSay scale fields row → Says scale line row
+pub says_at : (scale : ℕ) (line : List ℕ) (fields : Fields) (row : Row) → fields_of_line line ≡ Some fields → FieldsSay scale fields row
+    → Says scale line row
 says_at scale line fields row is says =
     let P : Option Fields → Type 0 = λ o. IsSomeAnd o (λ f. FieldsSay scale f row) in
     subst P (sym is) says
 
-pub fails_at : (scale : ℕ) (line : List ℕ) (fields : Fields) (why : RowCause) → fields_of_line line ≡ Some fields → FieldsFail scale fields why → Fails scale line why
+pub fails_at : (scale : ℕ) (line : List ℕ) (fields : Fields) (why : RowCause) → fields_of_line line ≡ Some fields
+    → FieldsFail scale fields why → Fails scale line why
 fails_at scale line fields cause.Fields is fails = absurd fails
 fails_at scale line fields cause.Time is fails =
     let P : Option Fields → Type 0 = λ o. IsSomeAnd o (λ f. FieldsFail scale f cause.Time) in
@@ -47,14 +50,17 @@ fails_at scale line fields cause.Value is fails =
     let P : Option Fields → Type 0 = λ o. IsSomeAnd o (λ f. FieldsFail scale f cause.Value) in
     subst P (sym is) fails
 
-pub refuses_at : (scale : ℕ) (line : List ℕ) (fields : Fields) (error : RowError) → fields_of_line line ≡ Some fields → IsBadFields scale fields error → Refuses scale line error
+pub refuses_at : (scale : ℕ) (line : List ℕ) (fields : Fields) (error : RowError) → fields_of_line line ≡ Some fields
+    → IsBadFields scale fields error → Refuses scale line error
 refuses_at scale line fields (BadRow why) is fails = fails_at scale line fields why is fails
 refuses_at scale line fields NoMemory is fails = absurd fails
 
-pub says_in : (scale : ℕ) (line : List ℕ) (fields : Fields) (result : Result Row RowError) → fields_of_line line ≡ Some fields → IfOk result (λ row. FieldsSay scale fields row) → IfOk result (λ row. Says scale line row)
+pub says_in : (scale : ℕ) (line : List ℕ) (fields : Fields) (result : Result Row RowError) → fields_of_line line ≡ Some fields
+    → IfOk result (λ row. FieldsSay scale fields row) → IfOk result (λ row. Says scale line row)
 says_in scale line fields (Ok row) is says = says_at scale line fields row is says
 says_in scale line fields (Err error) is says = tt
 
-pub refuses_in : (scale : ℕ) (line : List ℕ) (fields : Fields) (result : Result Row RowError) → fields_of_line line ≡ Some fields → IfErr result (λ error. IsBadFields scale fields error) → IfErr result (λ error. Refuses scale line error)
+pub refuses_in : (scale : ℕ) (line : List ℕ) (fields : Fields) (result : Result Row RowError) → fields_of_line line ≡ Some fields
+    → IfErr result (λ error. IsBadFields scale fields error) → IfErr result (λ error. Refuses scale line error)
 refuses_in scale line fields (Ok row) is fails = tt
 refuses_in scale line fields (Err error) is fails = refuses_at scale line fields error is fails

@@ -1,5 +1,6 @@
 -- The two fields of a line.
-use Rattle.std.specs.Prelude.{ℕ, ◌-◌, Bool, not, ◌==◌, ◌&&◌, List, [], ◌∷◌, length, take, drop, Option, None, Some, option_map, option_and_then}
+use Rattle.std.specs.Prelude.{ℕ, ◌-◌, Bool, not, ◌==◌, ◌&&◌, List, [], ◌∷◌, length, take, drop, Option, None, Some, option_map}
+use Rattle.std.specs.Prelude.{option_and_then}
 use Rattle.std.specs.List.{prefix_len, suffix_len}
 use Rattle.csv.specs.Reading.{records, default_config, strip_bom}
 

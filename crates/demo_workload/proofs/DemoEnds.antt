@@ -29,7 +29,8 @@ use Rattle.demo_workload.proofs.Rounds.{few_by_rounds}
 
 -- ---- no store was opened
 
-opened_leaves : (requests : List Request) (old new : View) → Opens (page_count old.size) old new → LeavesDemo requests (page_count old.size) old new
+opened_leaves : (requests : List Request) (old new : View) → Opens (page_count old.size) old new
+    → LeavesDemo requests (page_count old.size) old new
 opened_leaves requests old new opens = λ total book holds.
     since_opened (IsAheadDemo requests (page_count old.size) total (begun total book) (sent_now old)) old new total book opens holds
     (λ image is. ahead_none requests (page_count old.size) total book (sent_now old) image is)
@@ -38,13 +39,15 @@ opened_leaves requests old new opens = λ total book holds.
 costs_opening : (rounds : ℕ) (old new : View) → Opens (page_count old.size) old new → CostsDemo rounds old new
 costs_opening rounds old new opens = record { syncs = omega (arith, opens.few.syncs.high); writes = omega (arith, opens.few.writes.high) }
 
-pub costs_behind : (seed rounds : ℕ) (old mid new : View) → Opens (page_count old.size) old mid → CostsRequests (length (workload seed rounds)) mid new → CostsDemo rounds old new
+pub costs_behind : (seed rounds : ℕ) (old mid new : View) → Opens (page_count old.size) old mid
+    → CostsRequests (length (workload seed rounds)) mid new → CostsDemo rounds old new
 costs_behind seed rounds old mid new opens costs = record {
   syncs = omega (arith, few_by_rounds seed rounds, opens.few.syncs.high, costs.syncs);
   writes = omega (arith, few_by_rounds seed rounds, opens.few.writes.high, costs.writes);
 }
 
-pub undemonstrated : (seed rounds : ℕ) (old new : View) (left left' before now : Option (List ℕ)) (sends sends_now : ℕ) (cause : OpeningCause) (end : End) → IsUnopened old new left left' before now cause → end ≡ opening_end cause
+pub undemonstrated : (seed rounds : ℕ) (old new : View) (left left' before now : Option (List ℕ)) (sends sends_now : ℕ)
+    (cause : OpeningCause) (end : End) → IsUnopened old new left left' before now cause → end ≡ opening_end cause
     → DemoEnds seed rounds old new before now sends sends_now end
 undemonstrated seed rounds old new left left' before now sends sends_now cause end u same =
     let P : End → Type 0 = λ e. DemoEnds seed rounds old new before now sends sends_now e in
@@ -57,8 +60,16 @@ undemonstrated seed rounds old new left left' before now sends sends_now cause e
       goes_on = opened_goes old new u.opens;
     })
   where
-    by : (cause : OpeningCause) → IsUnopenedEnd (opening_end cause) old new × (now ≡ before) → IsDemoEnd (opening_end cause) seed rounds old new before now sends sends_now
-    by opening.NoMemory is = (λ total book holds. (begun total book, first_none (workload seed rounds) (begun total book), held old new u.opens total book holds), is.1)
+    by : (cause : OpeningCause) → IsUnopenedEnd (opening_end cause) old new × (now ≡ before)
+        → IsDemoEnd (opening_end cause) seed rounds old new before now sends sends_now
+    by opening.NoMemory is = (
+      λ total book holds. (
+        begun total book,
+        first_none (workload seed rounds) (begun total book),
+        held old new u.opens total book holds,
+      ),
+      is.1,
+    )
     by cause is = is
 
 -- ---- the workload stopped
@@ -71,21 +82,49 @@ never_key : (end : End) → end ≢ DiskFault → end ≢ NoMemory → IsOutside
 never_key end fault memory (inl same) = fault same
 never_key end fault memory (inr same) = memory same
 
-stopped : (seed rounds : ℕ) (old new : View) (before now : Option (List ℕ)) (sends sends_now : ℕ) (end : End) → Answered (workload seed rounds) (page_count old.size) old new (Err end) → now ≡ before
+stopped : (seed rounds : ℕ) (old new : View) (before now : Option (List ℕ)) (sends sends_now : ℕ) (end : End)
+    → Answered (workload seed rounds) (page_count old.size) old new (Err end) → now ≡ before
     → IsDemoEnd end seed rounds old new before now sends sends_now
 stopped seed rounds old new before now sends sends_now NoMemory a same = (a.stopped (λ e. cc), same)
 stopped seed rounds old new before now sends sends_now DiskFault a same = (a.cause, same)
-stopped seed rounds old new before now sends sends_now (DamagedPage page) a same = (a.cause, λ total book holds. never_page page (a.outside total book holds), same)
-stopped seed rounds old new before now sends sends_now (Missing number) a same = (λ total book holds. never_key (Missing number) (λ e. cc) (λ e. cc) (a.outside total book holds), a.cause, same)
-stopped seed rounds old new before now sends sends_now (BadCoefficient number) a same = (λ total book holds. never_key (BadCoefficient number) (λ e. cc) (λ e. cc) (a.outside total book holds), a.cause, same)
+stopped seed rounds old new before now sends sends_now (DamagedPage page) a same = (
+  a.cause,
+  λ total book holds. never_page page (a.outside total book holds),
+  same,
+)
+stopped seed rounds old new before now sends sends_now
+    (Missing number) a same = (
+      λ total book holds. never_key (Missing number) (λ e. cc) (λ e. cc) (a.outside total book holds),
+      a.cause,
+      same,
+    )
+stopped seed rounds old new before now sends sends_now
+    (BadCoefficient number) a same = (
+      λ total book holds. never_key (BadCoefficient number) (λ e. cc) (λ e. cc)
+          (a.outside total book holds),
+      a.cause,
+      same,
+    )
 stopped seed rounds old new before now sends sends_now end a same = absurd a.cause
 
-pub stopped_ends : (seed rounds : ℕ) (old new : View) (before now : Option (List ℕ)) (sends sends_now : ℕ) (end : End) → Answered (workload seed rounds) (page_count old.size) old new (Err end) → now ≡ before
-    → CostsDemo rounds old new → OfBook (page_count old.size) old (λ total book. ReadsDemo rounds old new) → DemoEnds seed rounds old new before now sends sends_now end
-stopped_ends seed rounds old new before now sends sends_now end a same costs reads = record { costs = costs; reads = reads; is = stopped seed rounds old new before now sends sends_now end a same; crash = a.crash; honest = a.honest; goes_on = a.goes_on }
+pub stopped_ends : (seed rounds : ℕ) (old new : View) (before now : Option (List ℕ)) (sends sends_now : ℕ) (end : End)
+    → Answered (workload seed rounds) (page_count old.size) old new (Err end) → now ≡ before
+    → CostsDemo rounds old new → OfBook (page_count old.size) old (λ total book. ReadsDemo rounds old new)
+    → DemoEnds seed rounds old new before now sends sends_now end
+stopped_ends seed rounds old new before now sends sends_now end a same costs reads = record {
+  costs = costs;
+  reads = reads;
+  is = stopped seed rounds old new before now sends sends_now end a same;
+  crash = a.crash;
+  honest = a.honest;
+  goes_on = a.goes_on;
+}
 
 -- ---- a disk that held a book holds one again
 
-pub again_answered : (requests : List Request) (count : ℕ) (old new : View) (answer : Result Summary End) → answer ≢ Err DiskFault → Answered requests count old new answer → HoldsAgain count old new
-again_answered requests count old new (Ok summary) other a = again_from count old new (λ start state. Summarizes requests start state summary) a.done
-again_answered requests count old new (Err end) other a = again_from count old new (AnswersFirst requests) (a.stopped (λ is. other (ap Err is)))
+pub again_answered : (requests : List Request) (count : ℕ) (old new : View) (answer : Result Summary End) → answer ≢ Err DiskFault
+    → Answered requests count old new answer → HoldsAgain count old new
+again_answered requests count old new (Ok summary) other a = again_from count old new
+    (λ start state. Summarizes requests start state summary) a.done
+again_answered requests count old new (Err end) other a = again_from count old new (AnswersFirst requests)
+    (a.stopped (λ is. other (ap Err is)))

@@ -18,17 +18,21 @@ few_none requests count at = λ total book holds. omega arith
 
 -- what is read where the pages stand for a book is read where the disk holds it
 pub few_over : (requests : List Request) (count : ℕ) (old new : View) → RestsNew count old
-    → ((total : ℕ) (book : List Series) → Honest old → StandsForBook (pages_of count old.image) total book → new.reads ≤ old.reads + most_reads requests) → ReadsRequests requests count old new
+    → ((total : ℕ) (book : List Series) → Honest old → StandsForBook (pages_of count old.image) total book
+    → new.reads ≤ old.reads + most_reads requests) → ReadsRequests requests count old new
 few_over requests count old new rests few = λ total book holds. few total book holds.honest (stands_held count total book old rests holds)
 
 -- no more than an opening
-pub reads_opening : (rounds : ℕ) (old new : View) → Opens (page_count old.size) old new → OfBook (page_count old.size) old (λ total book. ReadsDemo rounds old new)
+pub reads_opening : (rounds : ℕ) (old new : View) → Opens (page_count old.size) old new
+    → OfBook (page_count old.size) old (λ total book. ReadsDemo rounds old new)
 reads_opening rounds old new opens = λ total book holds. omega (arith, opens.reads.high)
 
 -- and requests behind it
-pub reads_behind : (seed rounds count : ℕ) (old mid new : View) → count ≡ page_count old.size → Opens (page_count old.size) old mid → ReadsRequests (workload seed rounds) count mid new
+pub reads_behind : (seed rounds count : ℕ) (old mid new : View) → count ≡ page_count old.size → Opens (page_count old.size) old mid
+    → ReadsRequests (workload seed rounds) count mid new
     → OfBook (page_count old.size) old (λ total book. ReadsDemo rounds old new)
 reads_behind seed rounds count old mid new counted opens few = λ total book holds.
     let C : ℕ → Type 0 = λ n. ReadsRequests (workload seed rounds) n mid new in
-    let read : new.reads ≤ mid.reads + most_reads (workload seed rounds) = subst C counted few total book (held old mid opens total book holds) in
+    let read : new.reads ≤ mid.reads + most_reads (workload seed rounds) = subst C counted few total book
+    (held old mid opens total book holds) in
     omega (arith, opens.reads.high, read, workload_reads seed rounds)

@@ -14,7 +14,8 @@ use Rattle.demo_workload.specs.Workload.{workload}
 use Rattle.demo_workload.proofs.Replies.{pictures_answers}
 use Rattle.store_commands.specs.Books.{begun, FromBook, OfBook}
 use Rattle.store_commands.proofs.Moments.{since_sent}
-use Rattle.demo_workload.specs.Demonstrated.{AnswersFirst, CostsDemo, DemoEnds, IsAheadDemo, IsDemoEnd, LeavesDemo, SendsSummary, SendsSummaryPart}
+use Rattle.demo_workload.specs.Demonstrated.{AnswersFirst, CostsDemo, DemoEnds, IsAheadDemo, IsDemoEnd, LeavesDemo, SendsSummary}
+use Rattle.demo_workload.specs.Demonstrated.{SendsSummaryPart}
 use Rattle.demo_workload.specs.Answered.{Answered}
 use Rattle.run_ends.specs.declared.ending.End.{End}
 use Rattle.run_ends.specs.declared.ending.End.TheVariants as ends
@@ -22,7 +23,8 @@ use Rattle.store_commands.specs.Sending.{IsSent, SendsText}
 use Rattle.store_commands.proofs.Held.{holds_sent}
 
 -- all requests are some first ones
-first_all : (requests : List Request) (start state : State) (summary : Summary) → Summarizes requests start state summary → AnswersFirst requests start state
+first_all : (requests : List Request) (start state : State) (summary : Summary) → Summarizes requests start state summary
+    → AnswersFirst requests start state
 first_all requests start state summary sums = record {
   first = requests;
   rest = [];
@@ -31,12 +33,18 @@ first_all requests start state summary sums = record {
   answered = pictures_answers requests sums.frames sums.pictures start state sums.replied;
 }
 
-module _ (requests : List Request) (count : ℕ) (old mid new : View) (summary : Summary) (a : Answered requests count old mid (Ok summary)) (kept : DiskKept mid new) (time : Passes mid new (Now mid) (λ sent. (sent_now mid ≤ sent) × (sent ≤ sent_now new))) where
+module _ (requests : List Request) (count : ℕ) (old mid new : View) (summary : Summary) (a : Answered requests count old mid (Ok summary))
+    (kept : DiskKept mid new) (time : Passes mid new (Now mid) (λ sent. (sent_now mid ≤ sent) × (sent ≤ sent_now new))) where
   -- all requests were answered, and so is this
-  pub all_done : (Done : State → State → Type 0) → ((start state : State) → Summarizes requests start state summary → Done start state) → FromBook count old new Done
+  pub all_done : (Done : State → State → Type 0) → ((start state : State) → Summarizes requests start state summary → Done start state)
+      → FromBook count old new Done
   all_done Done so = λ total book holds.
-      let all = a.done total book holds in
-      (all.0, so (begun total book) all.0 all.1, holds_sent count total all.0.book mid new (λ sent. (sent_now mid ≤ sent) × (sent ≤ sent_now new)) kept time all.2)
+      let all = a.done total book holds in (
+        all.0,
+        so (begun total book) all.0 all.1,
+        holds_sent count total all.0.book mid new (λ sent. (sent_now mid ≤ sent)
+            × (sent ≤ sent_now new)) kept time all.2,
+      )
 
   pub all_leave : LeavesDemo requests count old new
   all_leave = λ total book holds.
@@ -49,25 +57,48 @@ module _ (requests : List Request) (count : ℕ) (old mid new : View) (summary :
         readable = is.readable;
         within = is.within;
         old = is.old;
-        some = record { first = requests; rest = []; split = sym (append-nil requests); frames = all.1.frames; new = all.0; answered = answered; stands = is.stands };
+        some = record {
+          first = requests;
+          rest = [];
+          split = sym (append-nil requests);
+          frames = all.1.frames;
+          new = all.0;
+          answered = answered;
+          stands = is.stands;
+        };
         all = λ more. (all.1.frames, all.0, answered, is.stands);
       })
       (a.crash total book holds)
 
 -- the summary was sent, in part or not at all
-module _ (seed rounds : ℕ) (old mid new : View) (summary : Summary) (a : Answered (workload seed rounds) (page_count old.size) old mid (Ok summary)) (kept : DiskKept mid new) (time : Passes mid new (Now mid) (λ sent. (sent_now mid ≤ sent) × (sent ≤ sent_now new))) where
-  summary_sent : (before now : Option (List ℕ)) (sends sends_now : ℕ) (end : End) → IsSent end (summary_line summary) before now sends sends_now → IsDemoEnd end seed rounds old new before now sends sends_now
+module _ (seed rounds : ℕ) (old mid new : View) (summary : Summary)
+    (a : Answered (workload seed rounds) (page_count old.size) old mid (Ok summary)) (kept : DiskKept mid new)
+    (time : Passes mid new (Now mid) (λ sent. (sent_now mid ≤ sent) × (sent ≤ sent_now new))) where
+  summary_sent : (before now : Option (List ℕ)) (sends sends_now : ℕ) (end : End)
+      → IsSent end (summary_line summary) before now sends sends_now → IsDemoEnd end seed rounds old new before now sends sends_now
   summary_sent before now sends sends_now ends.Done is =
-      all_done (workload seed rounds) (page_count old.size) old mid new summary a kept time (λ start state. SendsSummary (workload seed rounds) start state before now) (λ start state sums. record { summary = summary; sums = sums; sent = is })
-  summary_sent before now sends sends_now ends.NoMemory is =
-      (all_done (workload seed rounds) (page_count old.size) old mid new summary a kept time (AnswersFirst (workload seed rounds)) (λ start state sums. first_all (workload seed rounds) start state summary sums), is)
-  summary_sent before now sends sends_now ends.SendFault is =
-      (is.0, all_done (workload seed rounds) (page_count old.size) old mid new summary a kept time (λ start state. SendsSummaryPart (workload seed rounds) start state before now) (λ start state sums. record { summary = summary; sums = sums; sent = is.1 }))
+      all_done (workload seed rounds) (page_count old.size) old mid new summary a kept time
+      (λ start state. SendsSummary (workload seed rounds) start state before now)
+      (λ start state sums. record { summary = summary; sums = sums; sent = is })
+  summary_sent before now sends sends_now ends.NoMemory is = (
+    all_done (workload seed rounds) (page_count old.size) old mid new summary a kept time (AnswersFirst (workload seed rounds))
+        (λ start state sums. first_all (workload seed rounds) start state summary sums),
+    is,
+  )
+  summary_sent before now sends sends_now ends.SendFault is = (
+    is.0,
+    all_done (workload seed rounds) (page_count old.size) old mid new summary a kept time
+        (λ start state. SendsSummaryPart (workload seed rounds) start state before now)
+        (λ start state sums. record { summary = summary; sums = sums; sent = is.1 }),
+  )
   summary_sent before now sends sends_now end is = absurd is
 
-pub sent_ends : (seed rounds : ℕ) (old mid new : View) (before between now : Option (List ℕ)) (sends sends_mid sends_now : ℕ) (end : End) (summary : Summary) → Answered (workload seed rounds) (page_count old.size) old mid (Ok summary)
-    → between ≡ before → sends_mid ≡ sends → SendsText (summary_line summary) mid new between now sends_mid sends_now end → CostsDemo rounds old mid
-    → OfBook (page_count old.size) old (λ total book. ReadsDemo rounds old mid) → DemoEnds seed rounds old new before now sends sends_now end
+pub sent_ends : (seed rounds : ℕ) (old mid new : View) (before between now : Option (List ℕ)) (sends sends_mid sends_now : ℕ) (end : End)
+    (summary : Summary) → Answered (workload seed rounds) (page_count old.size) old mid (Ok summary)
+    → between ≡ before → sends_mid ≡ sends → SendsText (summary_line summary) mid new between now sends_mid sends_now end
+    → CostsDemo rounds old mid
+    → OfBook (page_count old.size) old (λ total book. ReadsDemo rounds old mid)
+    → DemoEnds seed rounds old new before now sends sends_now end
 sent_ends seed rounds old mid new before between now sends sends_mid sends_now end summary a same same_sends s costs reads =
     let B : Option (List ℕ) → Type 0 = λ b. SendsText (summary_line summary) mid new b now sends_mid sends_now end in
     let S : ℕ → Type 0 = λ n. SendsText (summary_line summary) mid new before now n sends_now end in

@@ -19,7 +19,8 @@ told_step (step.Damaged page) = refl
 told_step step.NoMemory = refl
 
 -- an error of a step tells the same fault
-pub step_counts : (end : End) (e : ServiceError) (old new : View) → end ≡ end_of_step e → CountsFault (step_fault e) old new → CountsFault (end_fault end) old new
+pub step_counts : (end : End) (e : ServiceError) (old new : View) → end ≡ end_of_step e → CountsFault (step_fault e) old new
+    → CountsFault (end_fault end) old new
 step_counts end e old new is counts =
     let P : Option Fault → Type 0 = λ f. CountsFault f old new in
     subst P (sym (ap end_fault is ∙ told_step e)) counts
@@ -31,7 +32,8 @@ told_draw (Missing number) frame holdings why = refl
 told_draw (BadCoefficient number) frame holdings why = refl
 told_draw end frame holdings why = absurd why
 
-pub draw_counts : (end : End) (frame : Frame) (holdings : List Holding) (old new : View) → RejectsAs frame holdings end → CountsFault None old new → CountsFault (end_fault end) old new
+pub draw_counts : (end : End) (frame : Frame) (holdings : List Holding) (old new : View) → RejectsAs frame holdings end
+    → CountsFault None old new → CountsFault (end_fault end) old new
 draw_counts end frame holdings old new why counts =
     let P : Option Fault → Type 0 = λ f. CountsFault f old new in
     subst P (sym (told_draw end frame holdings why)) counts

@@ -28,7 +28,8 @@ use Rattle.demo_workload.proofs.Replies.{next_part}
 pub runs_none : (told : Type 0) (at : View) → Runs told told at at
 runs_none told at = record { told = λ t. t; was_told = λ t. t; size = refl; beside = refl; faults = omega arith }
 
-pub runs_on : (told_old told_mid told_new : Type 0) (old mid new : View) → Runs told_old told_mid old mid → Steps told_mid told_new mid new → Runs told_old told_new old new
+pub runs_on : (told_old told_mid told_new : Type 0) (old mid new : View) → Runs told_old told_mid old mid → Steps told_mid told_new mid new
+    → Runs told_old told_new old new
 runs_on told_old told_mid told_new old mid new first second = record {
   told = λ t. second.told (first.told t);
   was_told = λ t. first.was_told (second.was_told t);
@@ -41,7 +42,8 @@ runs_on told_old told_mid told_new old mid new first second = record {
 pub costs_none : (requests : ℕ) (at : View) → CostsRequests requests at at
 costs_none requests at = record { syncs = omega arith; writes = omega arith }
 
-pub costs_on : (told_mid told_new : Type 0) (requests more : ℕ) (old mid new : View) → requests + 1 ≤ more → CostsRequests requests old mid → Steps told_mid told_new mid new → CostsRequests more old new
+pub costs_on : (told_mid told_new : Type 0) (requests more : ℕ) (old mid new : View) → requests + 1 ≤ more → CostsRequests requests old mid
+    → Steps told_mid told_new mid new → CostsRequests more old new
 costs_on told_mid told_new requests more old mid new one first second = record {
   syncs = omega (arith, one, first.syncs, second.syncs.high);
   writes = omega (arith, one, first.writes, second.writes.high);
@@ -50,22 +52,29 @@ costs_on told_mid told_new requests more old mid new one first second = record {
 pub costs_most : (requests most : ℕ) (old new : View) → requests ≤ most → CostsRequests requests old new → CostsRequests most old new
 costs_most requests most old new few costs = record { syncs = omega (arith, few, costs.syncs); writes = omega (arith, few, costs.writes) }
 
-pub one_counted : (requests requests' : ℕ) (workload left : List Request) (request : Request) (all : ℕ) → workload ≡ request ∷ left → requests' ≡ requests + 1 → requests + length workload ≡ all → requests' + length left ≡ all
+pub one_counted : (requests requests' : ℕ) (workload left : List Request) (request : Request) (all : ℕ) → workload ≡ request ∷ left
+    → requests' ≡ requests + 1 → requests + length workload ≡ all → requests' + length left ≡ all
 one_counted requests requests' workload left request all is one was =
     let some : length workload ≡ suc (length left) = ap length is in
     omega (arith, some, one, was)
 
 -- at each moment of one more request a crash leaves the book behind some first requests
-pub moments_more : (requests left : List Request) (request : Request) (total : ℕ) (state : State) (old mid new : View) (sessions : List Session) (holdings : List Holding)
-    (summary : Summary) → (r : Reaches requests (request ∷ left) total state mid.image sessions holdings summary) → Passes old mid (IsPartWay requests total state) (Quiet old)
-    → Passes mid new (IsBeforeOrAfter (RepliedTo request) total r.book sessions) (Quiet mid) → Passes old new (IsPartWay requests total state) (Quiet old)
+pub moments_more : (requests left : List Request) (request : Request) (total : ℕ) (state : State) (old mid new : View)
+    (sessions : List Session) (holdings : List Holding)
+    (summary : Summary) → (r : Reaches requests (request ∷ left) total state mid.image sessions holdings summary)
+    → Passes old mid (IsPartWay requests total state) (Quiet old)
+    → Passes mid new (IsBeforeOrAfter (RepliedTo request) total r.book sessions) (Quiet mid)
+    → Passes old new (IsPartWay requests total state) (Quiet old)
 moments_more requests left request total state old mid new sessions holdings summary r first second =
     time_then old mid new (IsPartWay requests total state) first
-    (passes_weaker mid new (IsBeforeOrAfter (RepliedTo request) total r.book sessions) (IsPartWay requests total state) (Quiet mid) (Quiet mid)
-    (λ image way. next_part requests left request total state mid.image image sessions holdings summary r way) (λ count quiet. quiet) second)
+    (passes_weaker mid new (IsBeforeOrAfter (RepliedTo request) total r.book sessions) (IsPartWay requests total state) (Quiet mid)
+    (Quiet mid)
+    (λ image way. next_part requests left request total state mid.image image sessions holdings summary r way)
+    (λ count quiet. quiet) second)
 
 -- why the requests end
-met : (error : ClientError) (holdings : List Holding) → HasAccepted holdings → (frame : Frame) → Rejects frame error holdings → MeetsError error
+met : (error : ClientError) (holdings : List Holding) → HasAccepted holdings → (frame : Frame) → Rejects frame error holdings
+    → MeetsError error
 met error holdings accepted frame rejected = record {
   frames = accepted.frames;
   drawings = accepted.drawings;
@@ -77,7 +86,8 @@ met error holdings accepted frame rejected = record {
 
 pub cause_on : (end : End) (holdings : List Holding) (told : Type 0) (old mid new : View) → HasAccepted holdings
     → CountsFault None old mid → IsOneCause end holdings told mid new → IsCause end told old new
-cause_on DiskFault holdings told old mid new accepted faults cause = risen_since old.faults mid.faults new.faults (disk_stays old mid faults) cause
+cause_on DiskFault holdings told old mid new accepted faults cause = risen_since old.faults mid.faults new.faults
+    (disk_stays old mid faults) cause
 cause_on (Missing number) holdings told old mid new accepted faults cause =
     (cause.1.0, cause.1.1, met (client.Missing cause.1.0) holdings accepted cause.0 cause.1.2)
 cause_on (BadCoefficient number) holdings told old mid new accepted faults cause =
@@ -92,7 +102,8 @@ given_some {X} o x P Q given is = let M : Option X → Type 0 = λ y. MatchOptio
 pub given_none : {X : Type 0} (o : Option X) (P : Type 0) (Q : X → Type 0) → MatchOption o P Q → o ≡ None → P
 given_none {X} o P Q given is = let M : Option X → Type 0 = λ y. MatchOption y P Q in subst M is given
 
-pub one_fewer : (before now : ℕ) (left behind : List Request) (request : Request) → left ≡ request ∷ behind → now ≡ before + 1 → before + length left ≤ 12290
+pub one_fewer : (before now : ℕ) (left behind : List Request) (request : Request) → left ≡ request ∷ behind → now ≡ before + 1
+    → before + length left ≤ 12290
     → now + length behind ≤ 12290
 one_fewer before now left behind request is one few =
     let shorter : length left ≡ suc (length behind) = ap length is in

@@ -20,13 +20,20 @@ use Rattle.demo_workload.specs.Replying.{AnswersEach, PicturesEach, Summarizes, 
 use Rattle.demo_workload.specs.Answering.{AnswersOne, AcceptsOne, HasAccepted, Reaches}
 
 pub answers_more : (requests : List Request) (frames : List Frame) (request : Request) (frame : Frame) (old mid new : State)
-    → AnswersEach old requests frames mid → RepliedTo request frame mid new → AnswersEach old (requests ++ request ∷ []) (frames ++ frame ∷ []) new
-answers_more [] [] request frame old mid new each reply = let P : State → Type 0 = λ s. RepliedTo request frame s new in (new, subst P each reply, refl)
+    → AnswersEach old requests frames mid → RepliedTo request frame mid new
+    → AnswersEach old (requests ++ request ∷ []) (frames ++ frame ∷ []) new
+answers_more [] [] request frame old mid new each reply = let P : State → Type 0 = λ s. RepliedTo request frame s new in
+    (new, subst P each reply, refl)
 answers_more [] (f ∷ fs) request frame old mid new each reply = absurd each
 answers_more (r ∷ rs) [] request frame old mid new each reply = absurd each
-answers_more (r ∷ rs) (f ∷ fs) request frame old mid new each reply = (each.0, each.1, answers_more rs fs request frame each.0 mid new each.2 reply)
+answers_more (r ∷ rs) (f ∷ fs) request frame old mid new each reply = (
+  each.0,
+  each.1,
+  answers_more rs fs request frame each.0 mid new each.2 reply,
+)
 
-first_picture : (frames : List Frame) (pictures : List (Option Canvas)) (request : Request) (frame : Frame) (picture : Option Canvas) (old new : State)
+first_picture : (frames : List Frame) (pictures : List (Option Canvas)) (request : Request) (frame : Frame) (picture : Option Canvas)
+    (old new : State)
     → frames ≡ [] → pictures ≡ [] → RepliedTo request frame old new → IsPictureOf old new frame picture
     → PicturesEach old (request ∷ []) (frames ++ frame ∷ []) (pictures ++ picture ∷ []) new
 first_picture frames pictures request frame picture old new none blank reply pictured =
@@ -34,8 +41,10 @@ first_picture frames pictures request frame picture old new none blank reply pic
     let Q : List (Option Canvas) → Type 0 = λ ps. PicturesEach old (request ∷ []) (frame ∷ []) (ps ++ picture ∷ []) new in
     subst P (sym none) (subst Q (sym blank) (new, reply, pictured, (refl, refl, refl)))
 
-pub pictures_more : (requests : List Request) (frames : List Frame) (pictures : List (Option Canvas)) (request : Request) (frame : Frame) (picture : Option Canvas)
-    (old mid new : State) → PicturesEach old requests frames pictures mid → RepliedTo request frame mid new → IsPictureOf mid new frame picture
+pub pictures_more : (requests : List Request) (frames : List Frame) (pictures : List (Option Canvas)) (request : Request) (frame : Frame)
+    (picture : Option Canvas)
+    (old mid new : State) → PicturesEach old requests frames pictures mid → RepliedTo request frame mid new
+    → IsPictureOf mid new frame picture
     → PicturesEach old (requests ++ request ∷ []) (frames ++ frame ∷ []) (pictures ++ picture ∷ []) new
 pictures_more [] frames pictures request frame picture old mid new each reply pictured =
     let R : State → Type 0 = λ s. RepliedTo request frame s new in
@@ -48,14 +57,18 @@ pictures_more (r ∷ rs) (f ∷ fs) (p ∷ ps) request frame picture old mid new
 
 pub pictures_answers : (requests : List Request) (frames : List Frame) (pictures : List (Option Canvas)) (old new : State)
     → PicturesEach old requests frames pictures new → AnswersEach old requests frames new
-pictures_answers [] frames pictures old new each = let P : List Frame → Type 0 = λ fs. AnswersEach old [] fs new in subst P (sym each.0) each.2
+pictures_answers [] frames pictures old new each = let P : List Frame → Type 0 = λ fs. AnswersEach old [] fs new in
+    subst P (sym each.0) each.2
 pictures_answers (r ∷ rs) [] pictures old new each = absurd each
 pictures_answers (r ∷ rs) (f ∷ fs) [] old new each = absurd each
 pictures_answers (r ∷ rs) (f ∷ fs) (p ∷ ps) old new each = (each.0, each.1, pictures_answers rs fs ps each.0 new each.3)
 
-accepts_more : (frames : List Frame) (drawings : List (Option Canvas)) (frame : Frame) (drawing : Option Canvas) (old mid new : List Holding)
-    → AcceptsAll old frames drawings mid → Accepts frame drawing mid new → AcceptsAll old (frames ++ frame ∷ []) (drawings ++ drawing ∷ []) new
-accepts_more [] [] frame drawing old mid new all one = let P : List Holding → Type 0 = λ h. Accepts frame drawing h new in (new, subst P all one, refl)
+accepts_more : (frames : List Frame) (drawings : List (Option Canvas)) (frame : Frame) (drawing : Option Canvas)
+    (old mid new : List Holding)
+    → AcceptsAll old frames drawings mid → Accepts frame drawing mid new
+    → AcceptsAll old (frames ++ frame ∷ []) (drawings ++ drawing ∷ []) new
+accepts_more [] [] frame drawing old mid new all one = let P : List Holding → Type 0 = λ h. Accepts frame drawing h new in
+    (new, subst P all one, refl)
 accepts_more [] (d ∷ ds) frame drawing old mid new all one = absurd all
 accepts_more (f ∷ fs) [] frame drawing old mid new all one = absurd all
 accepts_more (f ∷ fs) (d ∷ ds) frame drawing old mid new all one = (all.0, all.1, accepts_more fs ds frame drawing all.0 mid new all.2 one)
@@ -71,8 +84,10 @@ pub accepted_none : (holdings : List Holding) → holdings ≡ [] → HasAccepte
 accepted_none holdings none = record { frames = []; drawings = []; accepted = none }
 
 -- one more request is answered
-pub reaches_more : (requests left : List Request) (request : Request) (total : ℕ) (old : State) (image image' : Image) (sessions sessions' : List Session)
-    (holdings holdings' : List Holding) (before now : Summary) → (r : Reaches requests (request ∷ left) total old image sessions holdings before)
+pub reaches_more : (requests left : List Request) (request : Request) (total : ℕ) (old : State) (image image' : Image)
+    (sessions sessions' : List Session)
+    (holdings holdings' : List Holding) (before now : Summary)
+    → (r : Reaches requests (request ∷ left) total old image sessions holdings before)
     → StandsAfter total image' sessions' (λ new. AnswersOne request (state_of r.book total sessions) new holdings' before now)
     → Reaches requests left total old image' sessions' holdings' now
 reaches_more requests left request total old image image' sessions sessions' holdings holdings' before now r a = record {
@@ -81,7 +96,8 @@ reaches_more requests left request total old image image' sessions sessions' hol
   frames = r.frames ++ a.so.frame ∷ [];
   pictures = r.pictures ++ a.so.picture ∷ [];
   book = a.book;
-  replied = pictures_more r.first r.frames r.pictures request a.so.frame a.so.picture old (state_of r.book total sessions) (state_of a.book total sessions')
+  replied = pictures_more r.first r.frames r.pictures request a.so.frame a.so.picture old (state_of r.book total sessions)
+      (state_of a.book total sessions')
       r.replied a.so.replied a.so.pictured;
   stands = a.stands;
   sound = a.so.replied.2;
@@ -90,7 +106,8 @@ reaches_more requests left request total old image image' sessions sessions' hol
 }
 
 -- the book that the pages stand for now is that behind some first requests
-pub reached_part : (requests left : List Request) (total : ℕ) (old : State) (image : Image) (sessions : List Session) (holdings : List Holding) (summary : Summary)
+pub reached_part : (requests left : List Request) (total : ℕ) (old : State) (image : Image) (sessions : List Session)
+    (holdings : List Holding) (summary : Summary)
     → Reaches requests left total old image sessions holdings summary → IsPartWay requests total old image
 reached_part requests left total old image sessions holdings summary r = record {
   first = r.first;
@@ -103,7 +120,8 @@ reached_part requests left total old image sessions holdings summary r = record 
 }
 
 -- and so is that on the way of the next request
-pub next_part : (requests left : List Request) (request : Request) (total : ℕ) (old : State) (image image' : Image) (sessions : List Session)
+pub next_part : (requests left : List Request) (request : Request) (total : ℕ) (old : State) (image image' : Image)
+    (sessions : List Session)
     (holdings : List Holding) (summary : Summary) → (r : Reaches requests (request ∷ left) total old image sessions holdings summary)
     → IsBeforeOrAfter (RepliedTo request) total r.book sessions image' → IsPartWay requests total old image'
 next_part requests left request total old image image' sessions holdings summary r (inl stands) = record {
@@ -121,14 +139,17 @@ next_part requests left request total old image image' sessions holdings summary
   split = r.split ∙ sym (append_assoc r.first (request ∷ []) left);
   frames = r.frames ++ after.frame ∷ [];
   new = state_of after.after.book total after.left;
-  answered = answers_more r.first r.frames request after.frame old (state_of r.book total sessions) (state_of after.after.book total after.left)
+  answered = answers_more r.first r.frames request after.frame old (state_of r.book total sessions)
+      (state_of after.after.book total after.left)
       (pictures_answers r.first r.frames r.pictures old (state_of r.book total sessions) r.replied) after.after.so;
   stands = after.after.stands;
 }
 
 -- all requests are answered
-pub reached_all : (requests left : List Request) (total : ℕ) (old : State) (image : Image) (sessions : List Session) (holdings : List Holding) (summary : Summary)
-    → left ≡ [] → Reaches requests left total old image sessions holdings summary → StandsAfter total image sessions (λ new. Summarizes requests old new summary)
+pub reached_all : (requests left : List Request) (total : ℕ) (old : State) (image : Image) (sessions : List Session)
+    (holdings : List Holding) (summary : Summary)
+    → left ≡ [] → Reaches requests left total old image sessions holdings summary
+    → StandsAfter total image sessions (λ new. Summarizes requests old new summary)
 reached_all requests left total old image sessions holdings summary none r =
     let P : List Request → Type 0 = λ l. requests ≡ r.first ++ l in
     let all : requests ≡ r.first = subst P none r.split ∙ append-nil r.first in
@@ -140,8 +161,10 @@ reached_all requests left total old image sessions holdings summary none r =
     }
 
 -- before the first request
-pub starts : (requests left : List Request) (total : ℕ) (book : List Series) (image : Image) (sessions : List Session) (holdings : List Holding) (summary : Summary)
-    → left ≡ requests → sessions ≡ [] → holdings ≡ [] → summary ≡ summary_of [] [] → StandsForBook image total book → IsSound (state_of book total sessions)
+pub starts : (requests left : List Request) (total : ℕ) (book : List Series) (image : Image) (sessions : List Session)
+    (holdings : List Holding) (summary : Summary)
+    → left ≡ requests → sessions ≡ [] → holdings ≡ [] → summary ≡ summary_of [] [] → StandsForBook image total book
+    → IsSound (state_of book total sessions)
     → Reaches requests left total (state_of book total []) image sessions holdings summary
 starts requests left total book image sessions holdings summary all alone none blank stands sound = record {
   first = [];
@@ -169,7 +192,8 @@ nothing_done requests total book image stands = record {
 }
 
 -- the next request is this one
-pub next_reaches : (requests left behind : List Request) (request : Request) (total : ℕ) (old : State) (image : Image) (sessions : List Session) (holdings : List Holding)
+pub next_reaches : (requests left behind : List Request) (request : Request) (total : ℕ) (old : State) (image : Image)
+    (sessions : List Session) (holdings : List Holding)
     (summary : Summary) → left ≡ request ∷ behind → Reaches requests left total old image sessions holdings summary
     → Reaches requests (request ∷ behind) total old image sessions holdings summary
 next_reaches requests left behind request total old image sessions holdings summary is r =

@@ -1,5 +1,6 @@
 -- The requests of rounds, one round further.
-use Rattle.std.proofs.Common.{ℕ, zero, suc, pos, ◌≡◌, ◌+◌, ◌-◌, ◌*◌, ◌%◌, ◌<◌, ◌≤◌, ◌==◌, Bool, true, false, if◌then◌else◌, List, [], ◌∷◌, ◌++◌, length, length-append, refl, sym, ap, ap₂, ◌∙◌, arith}
+use Rattle.std.proofs.Common.{ℕ, zero, suc, pos, ◌≡◌, ◌+◌, ◌-◌, ◌*◌, ◌%◌, ◌<◌, ◌≤◌, ◌==◌, Bool, true, false, if◌then◌else◌, List, [], ◌∷◌}
+use Rattle.std.proofs.Common.{◌++◌, length, length-append, refl, sym, ap, ap₂, ◌∙◌, arith}
 use Rattle.series_book.specs.Names.{is_name, is_name_byte}
 use Rattle.request_lines.specs.declared.requests.Request.{Request}
 use Rattle.demo_workload.specs.declared.draws.Walk.{Walk}
@@ -24,8 +25,10 @@ unfolding is_name is_name_byte
 name_is = refl
 
 -- an append is followed by what stands behind it
-pub append_given : (stage : Stage) (i left : ℕ) (walk walk' : Walk) (request : Request) (rest : List Request) → stage ≡ Append → 0 < left → request ≡ appends walk
-    → walk' ≡ walked 256 walk → rest ≡ set_in i walk' ++ view_in i ++ rounds (left - 1) (i + 1) (after_set i walk') → from_stage stage i left walk ≡ request ∷ rest
+pub append_given : (stage : Stage) (i left : ℕ) (walk walk' : Walk) (request : Request) (rest : List Request) → stage ≡ Append → 0 < left
+    → request ≡ appends walk
+    → walk' ≡ walked 256 walk → rest ≡ set_in i walk' ++ view_in i ++ rounds (left - 1) (i + 1) (after_set i walk')
+    → from_stage stage i left walk ≡ request ∷ rest
 append_given stage i left walk walk' request rest is some r w e =
     let after : Walk → List Request = λ v. set_in i v ++ view_in i ++ rounds (left - 1) (i + 1) (after_set i v) in
     ap (λ (s : Stage). from_stage s i left walk) is
@@ -43,7 +46,8 @@ few_in_round : (i : ℕ) (walk : Walk) → length (round i walk) ≤ 3
 few_in_round i walk =
     let sets : length (set_in i (walked 256 walk)) ≤ 1 = few_if (i % 4 == 3) _ in
     let views : length (view_in i) ≤ 1 = few_if (i % 8 == 7) _ in
-    let both : length (set_in i (walked 256 walk) ++ view_in i) ≡ length (set_in i (walked 256 walk)) + length (view_in i) = length-append (set_in i (walked 256 walk)) (view_in i) in
+    let both : length (set_in i (walked 256 walk) ++ view_in i) ≡ length (set_in i (walked 256 walk)) + length (view_in i) = length-append
+    (set_in i (walked 256 walk)) (view_in i) in
     let all : length (round i walk) ≡ suc (length (set_in i (walked 256 walk) ++ view_in i)) = refl in
     omega arith
 
@@ -53,7 +57,8 @@ few_in_rounds zero i walk = omega arith
 few_in_rounds (suc n) i walk =
     let here : length (round i walk) ≤ 3 = few_in_round i walk in
     let later : length (rounds n (i + 1) (after_round i walk)) ≤ 3 * n = few_in_rounds n (i + 1) (after_round i walk) in
-    let both : length (round i walk ++ rounds n (i + 1) (after_round i walk)) ≡ length (round i walk) + length (rounds n (i + 1) (after_round i walk)) =
+    let both : length (round i walk ++ rounds n (i + 1) (after_round i walk)) ≡ length (round i walk) + length
+    (rounds n (i + 1) (after_round i walk)) =
     length-append (round i walk) (rounds n (i + 1) (after_round i walk)) in
     omega arith
 

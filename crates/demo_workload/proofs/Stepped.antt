@@ -35,10 +35,13 @@ pub answered_one : Draws → (request : Request) (frame : Frame) (picture : Opti
     (sessions sessions' : List Session) (holdings holdings' : List Holding) (before now : Summary) → IsSound (state_of book total sessions)
     → Mirrors sessions holdings → StandsAfter total image sessions' (λ new. RepliedTo request frame (state_of book total sessions) new)
     → Accepts frame picture holdings holdings'
-    → ((frames : List Frame) (pictures : List (Option Canvas)) → before ≡ summary_of frames pictures → now ≡ summary_of (frames ++ frame ∷ []) (pictures ++ picture ∷ []))
+    → ((frames : List Frame) (pictures : List (Option Canvas)) → before ≡ summary_of frames pictures
+    → now ≡ summary_of (frames ++ frame ∷ []) (pictures ++ picture ∷ []))
     → StandsAfter total image sessions' (λ new. AnswersOne request (state_of book total sessions) new holdings' before now)
-answered_one draws request frame picture total book image sessions sessions' holdings holdings' before now sound mirrors reply accepted sums =
-    let drawn = draws request frame (state_of book total sessions) (state_of reply.book total sessions') holdings sound reply.so.0 mirrors picture holdings' accepted in
+answered_one draws request frame picture total book image sessions sessions' holdings holdings' before now sound mirrors reply accepted
+    sums =
+    let drawn = draws request frame (state_of book total sessions)
+    (state_of reply.book total sessions') holdings sound reply.so.0 mirrors picture holdings' accepted in
     record {
       book = reply.book;
       stands = reply.stands;
@@ -46,17 +49,21 @@ answered_one draws request frame picture total book image sessions sessions' hol
     }
 
 -- where pages stand for a book the client rejects nothing
-pub outside_frame : Accepted → (request : Request) (frame : Frame) (total : ℕ) (book : List Series) (image : Image) (sessions sessions' : List Session)
+pub outside_frame : Accepted → (request : Request) (frame : Frame) (total : ℕ) (book : List Series) (image : Image)
+    (sessions sessions' : List Session)
     (holdings : List Holding) (end : End) → IsSound (state_of book total sessions) → Mirrors sessions holdings
-    → StandsAfter total image sessions' (λ new. RepliedTo request frame (state_of book total sessions) new) → RejectsAs frame holdings end → IsOutside end
+    → StandsAfter total image sessions' (λ new. RepliedTo request frame (state_of book total sessions) new) → RejectsAs frame holdings end
+    → IsOutside end
 outside_frame lacks request frame total book image sessions sessions' holdings NoMemory sound mirrors reply rejected = inr refl
 outside_frame lacks request frame total book image sessions sessions' holdings (Missing number) sound mirrors reply rejected =
     let never : client.Missing rejected.0 ≡ client.NoMemory =
-    lacks request frame (state_of book total sessions) (state_of reply.book total sessions') holdings sound reply.so.0 mirrors (client.Missing rejected.0) rejected.2 in
+    lacks request frame (state_of book total sessions) (state_of reply.book total sessions') holdings sound reply.so.0 mirrors
+    (client.Missing rejected.0) rejected.2 in
     cc
 outside_frame lacks request frame total book image sessions sessions' holdings (BadCoefficient number) sound mirrors reply rejected =
     let never : client.BadCoefficient rejected.0 ≡ client.NoMemory =
-    lacks request frame (state_of book total sessions) (state_of reply.book total sessions') holdings sound reply.so.0 mirrors (client.BadCoefficient rejected.0) rejected.2 in
+    lacks request frame (state_of book total sessions) (state_of reply.book total sessions') holdings sound reply.so.0 mirrors
+    (client.BadCoefficient rejected.0) rejected.2 in
     cc
 outside_frame lacks request frame total book image sessions sessions' holdings end sound mirrors reply rejected = absurd rejected
 

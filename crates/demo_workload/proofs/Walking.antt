@@ -16,7 +16,8 @@ unfolding values
 length_values zero walk = refl
 length_values (suc n) walk = simp length-append (omega (arith, length_values n walk))
 
-pub after_draw_is : (walk : Walk) (state : ℕ) (value : ℤ) (number : ℕ) → state ≡ next_state walk.state → number ≡ number_in (next_state walk.state)
+pub after_draw_is : (walk : Walk) (state : ℕ) (value : ℤ) (number : ℕ) → state ≡ next_state walk.state
+    → number ≡ number_in (next_state walk.state)
     → value ≡ moved walk.value number → ◌≡◌ {A = Walk} (record { state = state; value = value }) (after_draw walk)
 unfolding after_draw
 after_draw_is walk state value number s n v =

@@ -37,7 +37,8 @@ KnowsOpen sessions holdings = (n : ℕ) → is_some (holding_of n holdings) ≡ 
 -- so of the state over each book that the pages of a service stand for, where it is sound and the client mirrors its sessions
 module _ {P : Type 0} {g : Ghosts P} where
   abbrev pub ForMirrored : Service P g → List Holding → (ℕ → State → Type 0) → Type 0
-  ForMirrored it holdings IsSo = shown.ForBook it (λ total book. IsSound (shown.state it total book) → Mirrors (shown.sessions it) holdings → IsSo total (shown.state it total book))
+  ForMirrored it holdings IsSo = shown.ForBook it (λ total book. IsSound (shown.state it total book) → Mirrors (shown.sessions it) holdings
+      → IsSo total (shown.state it total book))
 
 -- A request is answered, the client draws the picture of its frame and goes on mirroring the sessions, and the
 -- summary has one more reply.
@@ -82,7 +83,8 @@ pub record HasAccepted (holdings : List Holding) : Type 0 where
   pub accepted : AcceptsAll [] frames drawings holdings
 
 -- Of these requests the first ones were answered, those behind them are left, and the pages stand for the book then.
-pub record Reaches (requests left : List Request) (total : ℕ) (old : State) (image : Image) (sessions : List Session) (holdings : List Holding) (summary : Summary) : Type 0 where
+pub record Reaches (requests left : List Request) (total : ℕ) (old : State) (image : Image) (sessions : List Session)
+    (holdings : List Holding) (summary : Summary) : Type 0 where
   pub first : List Request
   pub split : requests ≡ first ++ left
   pub frames : List Frame

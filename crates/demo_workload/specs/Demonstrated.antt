@@ -52,11 +52,13 @@ pub record IsAheadDemo (requests : List Request) (count total : ℕ) (start : St
   pub within : total ≤ count
   pub old : KeepsOldStore count image
   pub some : IsPartWay requests total start (book_pages count image)
-  pub all : from < sent → (frames : List Frame) × (state : State) × AnswersEach start requests frames state × StandsForBook (book_pages count image) total state.book
+  pub all : from < sent → (frames : List Frame) × (state : State) × AnswersEach start requests frames state
+      × StandsForBook (book_pages count image) total state.book
 
 -- at each moment from old to new a crash leaves such an image
 abbrev pub LeavesDemo : List Request → ℕ → View → View → Type 0
-LeavesDemo requests count old new = OfBook count old (λ total book. Since old new (IsAheadDemo requests count total (begun total book) (sent_now old)))
+LeavesDemo requests count old new = OfBook count old
+    (λ total book. Since old new (IsAheadDemo requests count total (begun total book) (sent_now old)))
 
 -- Behind an opening each request is one commit at most, of at most 42 pages. A workload has two requests, and three for each
 -- round at most.
@@ -71,7 +73,8 @@ IsDemoEnd Done seed rounds old new before now sends sends_now =
 IsDemoEnd NoMemory seed rounds old new before now sends sends_now =
     FromBook (page_count old.size) old new (AnswersFirst (workload seed rounds)) × (now ≡ before)
 IsDemoEnd SendFault seed rounds old new before now sends sends_now =
-    HasRisen sends sends_now × FromBook (page_count old.size) old new (λ start state. SendsSummaryPart (workload seed rounds) start state before now)
+    HasRisen sends sends_now × FromBook (page_count old.size) old new
+    (λ start state. SendsSummaryPart (workload seed rounds) start state before now)
 IsDemoEnd (DamagedPage page) seed rounds old new before now sends sends_now =
     IsDamagedLater IsBadForRequest (page_count old.size) new (block_of page) × Never (page_count old.size) old × (now ≡ before)
 IsDemoEnd (Missing number) seed rounds old new before now sends sends_now =

@@ -28,7 +28,8 @@ PicturesEach old [] frames pictures new = (frames ≡ []) × (pictures ≡ []) �
 PicturesEach old (request ∷ requests) [] pictures new = ⊥
 PicturesEach old (request ∷ requests) (frame ∷ frames) [] new = ⊥
 PicturesEach old (request ∷ requests) (frame ∷ frames) (picture ∷ pictures) new =
-    (between : State) × RepliedTo request frame old between × IsPictureOf old between frame picture × PicturesEach between requests frames pictures new
+    (between : State) × RepliedTo request frame old between × IsPictureOf old between frame picture
+    × PicturesEach between requests frames pictures new
 
 -- the summary is that of the replies to the requests and of their pictures
 pub record Summarizes (requests : List Request) (old new : State) (summary : Summary) : Type 0 where

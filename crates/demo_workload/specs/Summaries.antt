@@ -1,5 +1,6 @@
 -- The summary of the replies to requests.
-use Rattle.std.specs.Prelude.{ℕ, ◌≡◌, ◌*◌, ◌^◌, ◌≤◌, Bool, true, false, List, [], ◌∷◌, length, ◌++◌, sum_by, count_by, Option, None, Some, codes}
+use Rattle.std.specs.Prelude.{ℕ, ◌≡◌, ◌*◌, ◌^◌, ◌≤◌, Bool, true, false, List, [], ◌∷◌, length, ◌++◌, sum_by, count_by, Option, None, Some}
+use Rattle.std.specs.Prelude.{codes}
 use Rattle.std.specs.Fmt.{decimal}
 use Rattle.line_raster.specs.Canvas.{Canvas, black_pixels}
 use Rattle.chart_frames.specs.declared.frame.Frame.{Frame}
@@ -69,13 +70,15 @@ summary_of frames pictures = record {
 -- a summary has one reply more, with its picture
 abbrev pub AddsReply : Frame → Option Canvas → Summary → Summary → Type 0
 AddsReply frame picture old new =
-    (frames : List Frame) (pictures : List (Option Canvas)) → old ≡ summary_of frames pictures → new ≡ summary_of (frames ++ frame ∷ []) (pictures ++ picture ∷ [])
+    (frames : List Frame) (pictures : List (Option Canvas)) → old ≡ summary_of frames pictures
+    → new ≡ summary_of (frames ++ frame ∷ []) (pictures ++ picture ∷ [])
 
 -- the line of a summary
 unfoldable pub summary_line : Summary → List ℕ
 summary_line s =
     codes "requests " ++ (decimal s.requests ++ (codes " done " ++ (decimal s.done ++ (codes " refused " ++ (decimal s.refused
-    ++ (codes " views " ++ (decimal s.views ++ (codes " sent " ++ (decimal s.sent ++ (codes " black " ++ (decimal s.black ++ codes "\n")))))))))))
+    ++ (codes " views " ++ (decimal s.views ++ (codes
+    " sent " ++ (decimal s.sent ++ (codes " black " ++ (decimal s.black ++ codes "\n")))))))))))
 
 -- A frame has at most 4,194,308 bytes, and a picture at most 2^24 pixels.
 pub record IsSmall (s : Summary) : Type 0 where

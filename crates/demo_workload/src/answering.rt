@@ -40,15 +40,20 @@ pub(crate) fn answer<P: Pages>(
     requires known { KnowsOpen (shown.sessions service.old) client.old }
     requires few { summary.old.requests < 2 ^ 32 }
     requires small { IsSmall summary.old }
-    ensures answered { ForMirrored service.old client.old (λ total old. OnOk result (shown.StandsSo total service.new (λ new. AnswersOne request.now old new client.new summary.old summary.new))) }
+    ensures answered { ForMirrored service.old client.old
+        (λ total old. OnOk result (shown.StandsSo total service.new
+        (λ new. AnswersOne request.now old new client.new summary.old summary.new))) }
     ensures standing { ForMirrored service.old client.old (λ total old. IfErr result IsOutside) }
     ensures moments { shown.ForBook service.old (λ total book. shown.PassesBy (RepliedTo request.now) total book service.old service.new) }
-    ensures left { shown.ForBook service.old (λ total book. IfStopped result (IsBeforeOrAfter (RepliedTo request.now) total book (shown.sessions service.old) (shown.image service.new))) }
-    ensures reads { shown.ForBook service.old (λ total book. ReadsFew request.now book (shown.sessions service.old) (shown.view service.old).reads (shown.view service.new).reads) }
+    ensures left { shown.ForBook service.old (λ total book. IfStopped result
+        (IsBeforeOrAfter (RepliedTo request.now) total book (shown.sessions service.old) (shown.image service.new))) }
+    ensures reads { shown.ForBook service.old (λ total book. ReadsFew request.now book (shown.sessions service.old)
+        (shown.view service.old).reads (shown.view service.new).reads) }
     // whatever the pages are
     ensures known { OnOk result (KnowsOpen (shown.sessions service.new) client.new) }
     ensures accepts { OnOk result (AcceptsOne client.old client.new) }
-    ensures cause { IfErr result (λ end. IsOneCause end client.old (shown.IsTold service.new) (shown.view service.old) (shown.view service.new)) }
+    ensures cause { IfErr result (λ end. IsOneCause end client.old (shown.IsTold service.new) (shown.view service.old)
+        (shown.view service.new)) }
     ensures faults { CountsFault (fault_in end_fault result) (shown.view service.old) (shown.view service.new) }
     ensures steps { Steps (shown.IsTold service.old) (shown.IsTold service.new) (shown.view service.old) (shown.view service.new) }
     ensures goes_on { GoesOn (shown.under service.old) (shown.under service.new) }

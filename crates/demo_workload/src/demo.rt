@@ -31,7 +31,8 @@ use store_commands::{opening_end, send_text};
 /// for it, and sends one line: `requests R done D refused F views V sent S black P`.
 pub fn run_demo<W: World>(alloc: Global, seed: u64, rounds: u16, world: W) -> (End, W)
     requires { rounds ≤ 4096 }
-    ensures ends { DemoEnds seed rounds (W.view world) (W.view result.1) (W.sent world) (W.sent result.1) (W.send_faults world) (W.send_faults result.1) result.0 }
+    ensures ends { DemoEnds seed rounds (W.view world) (W.view result.1) (W.sent world) (W.sent result.1) (W.send_faults world)
+        (W.send_faults result.1) result.0 }
     ensures holds { result.0 ≢ End.DiskFault → HoldsAgain (page_count (W.view world).size) (W.view world) (W.view result.1) }
     ensures away { TurnsAway (W.view world) (traffic W.left W.sent W.read_faults W.send_faults world result.1) (status_of result.0) }
     ensures untaken { W.left result.1 ≡ W.left world }
@@ -58,7 +59,8 @@ fn answer_store<W: World>(
 ) -> (Result<Summary, End>, W)
     requires sound { AreSound (shown.pages store) }
     requires rounds { rounds ≤ 4096 }
-    ensures answered { let pages = shown.pages store in Answered (workload seed rounds) (count pages) (W.view (disk pages)) (W.view result.1) result.0 }
+    ensures answered { let pages = shown.pages store in
+        Answered (workload seed rounds) (count pages) (W.view (disk pages)) (W.view result.1) result.0 }
     ensures costs { CostsRequests (length (workload seed rounds)) (W.view (disk (shown.pages store))) (W.view result.1) }
     ensures reads { ReadsRequests (workload seed rounds) (count (shown.pages store)) (W.view (disk (shown.pages store))) (W.view result.1) }
     ensures faults { CountsFault (fault_in end_fault result.0) (W.view (disk (shown.pages store))) (W.view result.1) }
@@ -79,9 +81,11 @@ fn answer_all<W: World>(
     requires sound { AreSound (service_shown.pages service) }
     requires alone { service_shown.sessions service ≡ [] }
     requires rounds { rounds ≤ 4096 }
-    ensures answered { let pages = service_shown.pages service in Answered (workload seed rounds) (count pages) (W.view (disk pages)) (W.view result.1) result.0 }
+    ensures answered { let pages = service_shown.pages service in
+        Answered (workload seed rounds) (count pages) (W.view (disk pages)) (W.view result.1) result.0 }
     ensures costs { CostsRequests (length (workload seed rounds)) (W.view (disk (service_shown.pages service))) (W.view result.1) }
-    ensures reads { ReadsRequests (workload seed rounds) (count (service_shown.pages service)) (W.view (disk (service_shown.pages service))) (W.view result.1) }
+    ensures reads { ReadsRequests (workload seed rounds) (count (service_shown.pages service)) (W.view (disk (service_shown.pages service)))
+        (W.view result.1) }
     ensures faults { CountsFault (fault_in end_fault result.0) (W.view (disk (service_shown.pages service))) (W.view result.1) }
 {
     let answer = run_workload(alloc, &mut service, seed, u32::from(rounds));

@@ -35,7 +35,8 @@ impl Plan {
     /// The next request, or none where nothing is left. After want of memory nothing has changed.
     pub(crate) fn next(&mut self, alloc: Global) -> Result<Option<Request>, AllocError>
         requires { IsPlan self.old }
-        ensures given { IfOk result (λ next. MatchOption next ((remaining self.old ≡ []) × (remaining self.new ≡ [])) (λ request. remaining self.old ≡ request ∷ remaining self.new)) }
+        ensures given { IfOk result (λ next. MatchOption next ((remaining self.old ≡ [])
+            × (remaining self.new ≡ [])) (λ request. remaining self.old ≡ request ∷ remaining self.new)) }
         ensures in_range { IfOk result (λ next. IfSome next IsInRange) }
         ensures kept { OnErr result (self.new ≡ self.old) }
         ensures plan { IsPlan self.new }
@@ -97,7 +98,8 @@ impl Plan {
         ensures left { self.new.left ≡ self.old.left }
         ensures walk { self.new.walk ≡ self.old.walk }
         ensures room { HasRoom self.new.stage self.new.round self.new.left }
-        ensures remaining { remaining self.new ≡ set_in self.old.round self.old.walk ++ view_in self.old.round ++ rounds self.old.left (self.old.round + 1) (after_set self.old.round self.old.walk) }
+        ensures remaining { remaining self.new ≡ set_in self.old.round self.old.walk ++ view_in self.old.round ++ rounds self.old.left
+            (self.old.round + 1) (after_set self.old.round self.old.walk) }
     {
         if self.round % 4 == 3 {
             self.stage = Stage::Set;

@@ -39,11 +39,15 @@ pub fn run_workload<P: Pages>(
     requires fit { (shown.view service.old).fit }
     requires alone { shown.sessions service.old ≡ [] }
     requires rounds { count ≤ 4096 }
-    ensures done { shown.ForBook service.old (λ total book. IfOk result (λ summary. shown.StandsSo total service.new (λ new. Summarizes (workload seed count) (state_of book total []) new summary))) }
+    ensures done { shown.ForBook service.old (λ total book. IfOk result
+        (λ summary. shown.StandsSo total service.new (λ new. Summarizes (workload seed count) (state_of book total []) new summary))) }
     ensures standing { shown.ForBook service.old (λ total book. IfErr result IsOutside) }
-    ensures moments { shown.ForBook service.old (λ total book. PassesPartWay (workload seed count) total book (shown.view service.old) (shown.view service.new)) }
-    ensures left { shown.ForBook service.old (λ total book. IfStopped result (IsPartWay (workload seed count) total (state_of book total []) (shown.image service.new))) }
-    ensures reads { shown.ForBook service.old (λ total book. (shown.view service.new).reads ≤ (shown.view service.old).reads + most_reads (workload seed count)) }
+    ensures moments { shown.ForBook service.old (λ total book. PassesPartWay (workload seed count) total book (shown.view service.old)
+        (shown.view service.new)) }
+    ensures left { shown.ForBook service.old (λ total book. IfStopped result
+        (IsPartWay (workload seed count) total (state_of book total []) (shown.image service.new))) }
+    ensures reads { shown.ForBook service.old (λ total book. (shown.view service.new).reads ≤ (shown.view service.old).reads + most_reads
+        (workload seed count)) }
     // whatever the pages are
     ensures cause { IfErr result (λ end. IsCause end (shown.IsTold service.new) (shown.view service.old) (shown.view service.new)) }
     ensures faults { CountsFault (fault_in end_fault result) (shown.view service.old) (shown.view service.new) }

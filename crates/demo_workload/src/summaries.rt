@@ -95,7 +95,8 @@ fn replies_text(
     done: u64,
     refused: u64,
 ) -> Result<Vec<u8>, AllocError>
-    ensures { IfOk result (λ text. text.items ≡ codes "requests " ++ (decimal requests ++ (codes " done " ++ (decimal done ++ (codes " refused " ++ decimal refused))))) }
+    ensures { IfOk result (λ text. text.items ≡ codes
+        "requests " ++ (decimal requests ++ (codes " done " ++ (decimal done ++ (codes " refused " ++ decimal refused))))) }
 {
     let text = format!(in alloc; "requests {requests} done {done} refused {refused}")?;
     Ok(Vec::from_slice(alloc, text.as_bytes())?)
@@ -103,7 +104,8 @@ fn replies_text(
 
 /// The second half of a summary's line.
 fn views_text(alloc: Global, views: u64, sent: u64, black: u64) -> Result<Vec<u8>, AllocError>
-    ensures { IfOk result (λ text. text.items ≡ codes " views " ++ (decimal views ++ (codes " sent " ++ (decimal sent ++ (codes " black " ++ (decimal black ++ codes "\n")))))) }
+    ensures { IfOk result (λ text. text.items ≡ codes
+        " views " ++ (decimal views ++ (codes " sent " ++ (decimal sent ++ (codes " black " ++ (decimal black ++ codes "\n")))))) }
 {
     let text = format!(in alloc; " views {views} sent {sent} black {black}\n")?;
     Ok(Vec::from_slice(alloc, text.as_bytes())?)

@@ -50,7 +50,8 @@ impl Workload {
 
     /// The next request, or none where all were given. After want of memory nothing has changed.
     pub fn next(&mut self, alloc: Global) -> Result<Option<Request>, AllocError>
-        ensures given { IfOk result (λ next. MatchOption next ((self.old ≡ []) × (self.new ≡ [])) (λ request. self.old ≡ request ∷ self.new)) }
+        ensures given { IfOk result (λ next. MatchOption next ((self.old ≡ [])
+            × (self.new ≡ [])) (λ request. self.old ≡ request ∷ self.new)) }
         ensures in_range { IfOk result (λ next. IfSome next IsInRange) }
         ensures kept { OnErr result (self.new ≡ self.old) }
     {

@@ -1,5 +1,6 @@
 -- A request over a book is refused, or has an answer.
-use Rattle.std.proofs.Common.{◌≡◌, ◌∙◌, ℕ, ℤ, pos, ◌*◌, ◌/◌, ◌%◌, ◌<◌, ◌*ℤ◌, ◌+ℤ◌, ◌-ℤ◌, ◌≤ℤ◌, ◌<ℤ◌, ◌⊎◌, List, Option, None, Some, refl, sym, ap, subst, inl, inr, arith}
+use Rattle.std.proofs.Common.{◌≡◌, ◌∙◌, ℕ, ℤ, pos, ◌*◌, ◌/◌, ◌%◌, ◌<◌, ◌*ℤ◌, ◌+ℤ◌, ◌-ℤ◌, ◌≤ℤ◌, ◌<ℤ◌, ◌⊎◌, List, Option, None, Some, refl}
+use Rattle.std.proofs.Common.{sym, ap, subst, inl, inr, arith}
 use Rattle.std.proofs.Math.Nat.{mul-mod_left}
 use Rattle.std.proofs.lemmas.Bool.{cases_lt, cases_eq}
 use Rattle.std.proofs.lemmas.Int.{ints, unsigned_abs-mul}
@@ -58,12 +59,14 @@ gap_of a b c is = grind (arith, ints, is)
 
 even_gap : (x y : Axis) (d : ℤ) → IsShift x y d → gap x y % x.step ≡ 0
 even_gap x y d shift =
-    let whole : gap x y ≡ unsigned_abs d * x.step = gap_of x.start y.start (d *ℤ pos x.step) shift.start ∙ unsigned_abs-mul d (pos x.step) in
+    let whole : gap x y ≡ unsigned_abs d * x.step = gap_of x.start y.start (d *ℤ pos x.step) shift.start
+    ∙ unsigned_abs-mul d (pos x.step) in
     ap (λ n. n % x.step) whole ∙ mul-mod_left (unsigned_abs d) x.step
 
 shift_decided : (x y : Axis) → ((d : ℤ) × IsShift x y d) ⊎ ((d : ℤ) → IsShift x y d → ⊥)
 shift_decided x y = elim (cases_eq y.step x.step) [
-  | inl same ↦ elim (cases_eq (gap x y % x.step) 0) [ inl even ↦ inl (found_shift x y same even) | inr odd ↦ inr (λ d shift. odd (even_gap x y d shift)) ]
+  | inl same ↦ elim (cases_eq (gap x y % x.step) 0)
+      [ inl even ↦ inl (found_shift x y same even) | inr odd ↦ inr (λ d shift. odd (even_gap x y d shift)) ]
   | inr apart ↦ inr (λ d shift. apart shift.step)
 ]
 
@@ -107,7 +110,14 @@ range_decided (word.Fixed lo hi) =
 grid_of : (r : Request) → IsWindow r.t0 r.t1 → IsSide r.w → IsSide r.h → IsGoodRange r.range → (g : Grid) × IsGridOf r g
 grid_of r window wide high range = (
   record { t0 = r.t0; t1 = r.t1; w = r.w; h = r.h; window = window; wide = wide; high = high },
-  record { window = window; wide = wide; high = high; range = range; shows = record { from = refl; to = refl }; canvas = record { columns = refl; rows = refl } },
+  record {
+    window = window;
+    wide = wide;
+    high = high;
+    range = range;
+    shows = record { from = refl; to = refl };
+    canvas = record { columns = refl; rows = refl };
+  },
 )
 
 -- ---- a request
@@ -115,13 +125,24 @@ grid_of r window wide high range = (
 abbrev Settled : List Series → Request → Type 0
 Settled book r = ((why : DeriveRefusal) × IsRefused book r why) ⊎ ((text : List ℕ) × IsAnswer book r text)
 
-module _ (law : (g : Grid) (x y : Axis) (sum : Sum) (xs ys : List (Option ℤ)) → 0 < x.step → IsShift x y sum.shift → AreSumSamples g sum.a sum.b x y xs ys (kept g x (sums_of sum xs ys)))
+module _ (law : (g : Grid) (x y : Axis) (sum : Sum) (xs ys : List (Option ℤ)) → 0 < x.step → IsShift x y sum.shift
+    → AreSumSamples g sum.a sum.b x y xs ys (kept g x (sums_of sum xs ys)))
     (book : List Series) (steps : HaveSteps book) (r : Request) where
   drawn : (one : AreOnOneGrid book r) → (g : Grid) → IsGridOf r g → Settled book r
   drawn one g grid_is =
       let on = one.shifted in
       elim (sum_drawn book one.x one.y one.shift on (steps one.x on.one on.first) law r.a r.b g (asked_range r.range)) [
-        | inl chart ↦ inr (picture chart.0, record { series = one; grid = g; grid_is = grid_is; canvas = chart.0; chart = chart.1; text_is = refl })
+        | inl chart ↦ inr (
+          picture chart.0,
+          record {
+            series = one;
+            grid = g;
+            grid_is = grid_is;
+            canvas = chart.0;
+            chart = chart.1;
+            text_is = refl;
+          },
+        )
         | inr large ↦ inl (refusal.TooLarge, record { series = one; grid = g; grid_is = grid_is; time = large.0; large = large.1 })
       ]
 
@@ -149,17 +170,25 @@ module _ (law : (g : Grid) (x y : Axis) (sum : Sum) (xs ys : List (Option ℤ)) 
     paired None other first second = unlike (λ d on. let never : None ≡ Some on.one = sym first ∙ on.first in cc)
     paired (Some one) None first second = unlike (λ d on. let never : None ≡ Some on.other = sym second ∙ on.second in cc)
     paired (Some one) (Some other) first second = elim (shift_decided (axis_of one) (axis_of other)) [
-      | inl found ↦ viewed (record { x = x; y = y; named = named; shift = found.0; shifted = record { one = one; other = other; first = first; second = second; shift = found.1 } })
+      | inl found ↦ viewed (record {
+        x = x;
+        y = y;
+        named = named;
+        shift = found.0;
+        shifted = record { one = one; other = other; first = first; second = second; shift = found.1 };
+      })
       | inr none ↦ unlike (λ d on.
           let P : Series → Type 0 = λ s. IsShift (axis_of s) (axis_of on.other) d in
           let Q : Series → Type 0 = λ s. IsShift (axis_of one) (axis_of s) d in
-          none d (subst Q (same_series book y on.other other on.second second) (subst P (same_series book x on.one one on.first first) on.shift)))
+          none d (subst Q (same_series book y on.other other on.second second)
+          (subst P (same_series book x on.one one on.first first) on.shift)))
     ]
 
   named_so : (x y : Option ℕ) → id_of r.first book ≡ x → id_of r.second book ≡ y → Settled book r
   named_so None y first second = inl (refusal.UnknownSeries, inl first)
   named_so (Some x) None first second = inl (refusal.UnknownSeries, inr second)
-  named_so (Some x) (Some y) first second = paired x y (record { first = first; second = second }) (slice_get book x) (slice_get book y) refl refl
+  named_so (Some x) (Some y) first second = paired x y (record { first = first; second = second }) (slice_get book x)
+      (slice_get book y) refl refl
 
   pub settled : Settled book r
   settled = named_so (id_of r.first book) (id_of r.second book) refl refl

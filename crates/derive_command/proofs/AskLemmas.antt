@@ -29,7 +29,8 @@ view_known r refusal.BadRange is same = cc
 view_known r refusal.TooLarge is same = cc
 
 -- the window, the canvas or the range is bad
-pub view_refused : (book : List Series) (r : Request) (x y : ℕ) (shift : ℤ) → AreNamed book r x y → AreShifted book x y shift → (why : DeriveRefusal) → IsViewOf r (Err why) → IsRefused book r why
+pub view_refused : (book : List Series) (r : Request) (x y : ℕ) (shift : ℤ) → AreNamed book r x y → AreShifted book x y shift
+    → (why : DeriveRefusal) → IsViewOf r (Err why) → IsRefused book r why
 view_refused book r x y shift named shifted why is = by why is
   where
     one : AreOnOneGrid book r
@@ -76,11 +77,13 @@ module _ (catalog : List StoredSeries) (r : Request) (x y : ℕ) (named : AreNam
       }
 
 -- a series isn't there
-pub lacks_refused : (catalog : List StoredSeries) (r : Request) (why : DeriveRefusal) → why ≡ refusal.UnknownSeries → LacksOne catalog r → IsRefusedBy (in_memory catalog) r why
+pub lacks_refused : (catalog : List StoredSeries) (r : Request) (why : DeriveRefusal) → why ≡ refusal.UnknownSeries → LacksOne catalog r
+    → IsRefusedBy (in_memory catalog) r why
 lacks_refused catalog r why is lacks = let P : DeriveRefusal → Type 0 = λ e. IsRefusedBy (in_memory catalog) r e in subst P (sym is) lacks
 
 -- the window, the canvas or the range is bad
-pub view_refused_in : (catalog : List StoredSeries) (r : Request) → HasTwoIn AreOnGrid catalog r.first r.second → (why : DeriveRefusal) → IsViewOf r (Err why) → IsRefusedBy (in_memory catalog) r why
+pub view_refused_in : (catalog : List StoredSeries) (r : Request) → HasTwoIn AreOnGrid catalog r.first r.second → (why : DeriveRefusal)
+    → IsViewOf r (Err why) → IsRefusedBy (in_memory catalog) r why
 view_refused_in catalog r one refusal.UnknownSeries is = absurd is
 view_refused_in catalog r one refusal.NotOneGrid is = absurd is
 view_refused_in catalog r one refusal.BadWindow is = (one, is)

@@ -1,5 +1,6 @@
 -- A chart can be drawn of any samples, and sums are too large, or have one.
-use Rattle.std.proofs.Common.{◌≡◌, ◌∙◌, ℕ, ℤ, suc, pos, ◌+◌, ◌-◌, ◌*◌, ◌/◌, ◌%◌, ◌<◌, ◌≤◌, ◌^◌, ◌+ℤ◌, ◌-ℤ◌, ◌≤ℤ◌, ◌<ℤ◌, ◌⊎◌, ◌↔◌, Bool, true, false, List, [], ◌∷◌, get_or, map, All, Option, None, Some, IsTrue, refl, sym, subst, inl, inr, arith}
+use Rattle.std.proofs.Common.{◌≡◌, ◌∙◌, ℕ, ℤ, suc, pos, ◌+◌, ◌-◌, ◌*◌, ◌/◌, ◌%◌, ◌<◌, ◌≤◌, ◌^◌, ◌+ℤ◌, ◌-ℤ◌, ◌≤ℤ◌, ◌<ℤ◌, ◌⊎◌, ◌↔◌, Bool}
+use Rattle.std.proofs.Common.{true, false, List, [], ◌∷◌, get_or, map, All, Option, None, Some, IsTrue, refl, sym, subst, inl, inr, arith}
 use Rattle.std.proofs.lemmas.Bool.{cases_lt, cases_eq, false≢true}
 use Rattle.std.proofs.lemmas.Int.{ints}
 use Rattle.std.proofs.lemmas.List.Elements.{All-cons, All-nil}
@@ -72,7 +73,8 @@ is_at p x y = same_if (λ is. record { column = is.0; row = is.1 }) (λ is. (is.
 
 is_dot : (p q : Point) (x : ℕ) (y : ℤ) → Decided (IsDot p q x y)
 is_dot p q x y =
-    same_if (λ is. record { no_columns = is.0; no_rows = is.1.0; column = is.1.1.0; row = is.1.1.1 }) (λ is. (is.no_columns, (is.no_rows, (is.column, is.row))))
+    same_if (λ is. record { no_columns = is.0; no_rows = is.1.0; column = is.1.1.0; row = is.1.1.1 })
+    (λ is. (is.no_columns, (is.no_rows, (is.column, is.row))))
     (both (is_same (columns p q) 0) (both (is_same (rows p q) 0) (both (is_same x p.x) (is_same_int y p.y))))
 
 -- how far a pixel lies from the start tells the step
@@ -115,7 +117,8 @@ in_row p q x y =
     let Y : ℕ → Type 0 = λ m. y ≡ towards p.y q.y m in
     let C : ℕ → Type 0 = λ m. x ≡ p.x + share (rows p q) (columns p q) m in
     (is.high, (subst R (sym same) is.reached, (subst Y (sym same) is.row, subst C (sym same) is.column))))
-    (both (is_less (columns p q) (rows p q)) (both (is_most n (rows p q)) (both (is_same_int y (towards p.y q.y n)) (is_same x (p.x + share (rows p q) (columns p q) n)))))
+    (both (is_less (columns p q) (rows p q)) (both (is_most n (rows p q))
+    (both (is_same_int y (towards p.y q.y n)) (is_same x (p.x + share (rows p q) (columns p q) n)))))
 
 is_on : (p q : Point) (x : ℕ) (y : ℤ) → Decided (On p q x y)
 is_on p q x y = either (is_dot p q x y) (either (in_column p q x y) (in_row p q x y))
@@ -147,7 +150,8 @@ canvas_of w h black = record { w = w; h = h; cells = map (λ i. black (i / h) (i
 black_is : (w h : ℕ) (black : ℕ → ℕ → Bool) (x y : ℕ) → x < w → y < h → black_at (canvas_of w h black) x y ≡ black x y
 unfolding black_at
 black_is w h black x y column row =
-    get_or-map-range_with_len (λ i. black (i / h) (i % h)) 0 (w * h) (x * h + y) (x * h + y) false (omega (arith, mul-add-lt x h y w column row)) (omega arith)
+    get_or-map-range_with_len (λ i. black (i / h) (i % h)) 0 (w * h) (x * h + y) (x * h + y) false
+    (omega (arith, mul-add-lt x h y w column row)) (omega arith)
     ∙ (λ i. black (div-mul-add x h y row i) (mod-mul-add x h y row i))
 
 chart_of : (g : Grid) (range : ValueRange) (samples : List Sample) → (canvas : Canvas) × IsChart g range samples canvas
@@ -195,10 +199,20 @@ spans_of v (u ∷ us) =
     let high : (hi ≡ v) ⊎ (hi ≡ rest.0.hi) = grind (arith, ints) in (
       record { lo = lo; hi = hi },
       record {
-        least = elim low [ inl here ↦ subst C (sym here) (head_in v (u ∷ us)) | inr there ↦ subst C (sym there) (tail_in v (u ∷ us) rest.0.lo rest.1.least) ];
-        none_below = All-cons (λ w. lo ≤ℤ w) v (u ∷ us) (grind (arith, ints)) (all_so (λ w. rest.0.lo ≤ℤ w) (λ w. lo ≤ℤ w) (u ∷ us) (λ w is. grind (arith, ints, is)) rest.1.none_below);
-        greatest = elim high [ inl here ↦ subst C (sym here) (head_in v (u ∷ us)) | inr there ↦ subst C (sym there) (tail_in v (u ∷ us) rest.0.hi rest.1.greatest) ];
-        none_above = All-cons (λ w. w ≤ℤ hi) v (u ∷ us) (grind (arith, ints)) (all_so (λ w. w ≤ℤ rest.0.hi) (λ w. w ≤ℤ hi) (u ∷ us) (λ w is. grind (arith, ints, is)) rest.1.none_above);
+        least = elim low [
+          | inl here ↦ subst C (sym here) (head_in v (u ∷ us))
+          | inr there ↦ subst C (sym there)
+              (tail_in v (u ∷ us) rest.0.lo rest.1.least)
+        ];
+        none_below = All-cons (λ w. lo ≤ℤ w) v (u ∷ us) (grind (arith, ints))
+            (all_so (λ w. rest.0.lo ≤ℤ w) (λ w. lo ≤ℤ w) (u ∷ us) (λ w is. grind (arith, ints, is)) rest.1.none_below);
+        greatest = elim high [
+          | inl here ↦ subst C (sym here) (head_in v (u ∷ us))
+          | inr there ↦ subst C (sym there)
+              (tail_in v (u ∷ us) rest.0.hi rest.1.greatest)
+        ];
+        none_above = All-cons (λ w. w ≤ℤ hi) v (u ∷ us) (grind (arith, ints))
+            (all_so (λ w. w ≤ℤ rest.0.hi) (λ w. w ≤ℤ hi) (u ∷ us) (λ w is. grind (arith, ints, is)) rest.1.none_above);
       },
     )
 
@@ -212,9 +226,11 @@ shown_of (Some asked) values = (asked, refl)
 
 -- ---- sums that are too large
 
-large_of : (samples : List Sample) → AllPairs (λ s t. s.time <ℤ t.time) samples → All (λ s. IsValue s.value) samples ⊎ ((time : ℤ) × IsFirstTooLarge samples time)
+large_of : (samples : List Sample) → AllPairs (λ s t. s.time <ℤ t.time) samples
+    → All (λ s. IsValue s.value) samples ⊎ ((time : ℤ) × IsFirstTooLarge samples time)
 large_of [] rising = inl (All-nil (λ s. IsValue s.value))
-large_of (s ∷ ss) rising = by (is_less (10 ^ 18) (unsigned_abs s.value)) (large_of ss (λ i j d low within. rising (suc i) (suc j) d (omega (arith, low)) (omega (arith, within))))
+large_of (s ∷ ss) rising = by (is_less (10 ^ 18) (unsigned_abs s.value))
+    (large_of ss (λ i j d low within. rising (suc i) (suc j) d (omega (arith, low)) (omega (arith, within))))
   where
     by : Decided (10 ^ 18 < unsigned_abs s.value) → All (λ s. IsValue s.value) ss ⊎ ((time : ℤ) × IsFirstTooLarge ss time)
         → All (λ s. IsValue s.value) (s ∷ ss) ⊎ ((time : ℤ) × IsFirstTooLarge (s ∷ ss) time)
@@ -225,17 +241,20 @@ large_of (s ∷ ss) rising = by (is_less (10 ^ 18) (unsigned_abs s.value)) (larg
         among = (0, omega arith, refl);
         large = large;
         before = All-cons (λ t. t.time <ℤ s.time → IsValue t.value) s ss (λ low. absurd (grind (arith, ints, low)))
-            (λ k d within low. let later = rising 0 (suc k) d (omega arith) (omega (arith, within)) in absurd (grind (arith, ints, low, later)));
+            (λ k d within low. let later = rising 0 (suc k) d (omega arith) (omega (arith, within)) in
+            absurd (grind (arith, ints, low, later)));
       },
     )
-    by (inr small) (inl all) = inl (All-cons (λ t. IsValue t.value) s ss (elim (cases_lt (10 ^ 18) (unsigned_abs s.value)) [ inl large ↦ absurd (small large) | inr low ↦ low ]) all)
+    by (inr small) (inl all) = inl (All-cons (λ t. IsValue t.value) s ss
+        (elim (cases_lt (10 ^ 18) (unsigned_abs s.value)) [ inl large ↦ absurd (small large) | inr low ↦ low ]) all)
     by (inr small) (inr (time, first)) = inr (
       time,
       record {
         value = first.value;
         among = (suc first.among.0, omega (arith, first.among.1), first.among.2);
         large = first.large;
-        before = All-cons (λ t. t.time <ℤ time → IsValue t.value) s ss (λ low. elim (cases_lt (10 ^ 18) (unsigned_abs s.value)) [ inl large ↦ absurd (small large) | inr few ↦ few ]) first.before;
+        before = All-cons (λ t. t.time <ℤ time → IsValue t.value) s ss
+            (λ low. elim (cases_lt (10 ^ 18) (unsigned_abs s.value)) [ inl large ↦ absurd (small large) | inr few ↦ few ]) first.before;
       },
     )
 
@@ -256,8 +275,10 @@ pair_of samples rising i j d low within =
 -- ---- a sum has a chart, or is too large
 
 pub sum_drawn : (book : List Series) (x y : ℕ) (shift : ℤ) (on : AreShifted book x y shift) → 0 < on.one.step
-    → ((g : Grid) (x y : Axis) (sum : Sum) (xs ys : List (Option ℤ)) → 0 < x.step → IsShift x y sum.shift → AreSumSamples g sum.a sum.b x y xs ys (kept g x (sums_of sum xs ys)))
-    → (a b : ℤ) (g : Grid) (asked : Option ValueRange) → ((canvas : Canvas) × IsDerivedChart book x y a b g asked canvas) ⊎ ((time : ℤ) × HasLargeSum book x y a b g time)
+    → ((g : Grid) (x y : Axis) (sum : Sum) (xs ys : List (Option ℤ)) → 0 < x.step → IsShift x y sum.shift
+    → AreSumSamples g sum.a sum.b x y xs ys (kept g x (sums_of sum xs ys)))
+    → (a b : ℤ) (g : Grid) (asked : Option ValueRange)
+    → ((canvas : Canvas) × IsDerivedChart book x y a b g asked canvas) ⊎ ((time : ℤ) × HasLargeSum book x y a b g time)
 sum_drawn book x y shift on step law a b g asked =
     let samples = kept g (axis_of on.one) (sums_of (record { a = a; b = b; shift = shift }) on.one.slots on.other.slots) in
     let is : AreSamplesOf book x y a b g samples = record {
@@ -269,7 +290,8 @@ sum_drawn book x y shift on step law a b g asked =
     } in
     by samples is (large_of samples (pair_of samples is.are.order.rising))
   where
-    by : (samples : List Sample) → AreSamplesOf book x y a b g samples → All (λ s. IsValue s.value) samples ⊎ ((time : ℤ) × IsFirstTooLarge samples time)
+    by : (samples : List Sample) → AreSamplesOf book x y a b g samples
+        → All (λ s. IsValue s.value) samples ⊎ ((time : ℤ) × IsFirstTooLarge samples time)
         → ((canvas : Canvas) × IsDerivedChart book x y a b g asked canvas) ⊎ ((time : ℤ) × HasLargeSum book x y a b g time)
     by samples is (inl all) =
         let range = shown_of asked (values_of samples) in

@@ -37,7 +37,8 @@ one_id : (o : Option ℕ) (id other : ℕ) → o ≡ Some id → o ≡ Some othe
 one_id o id other first second = let same : Some id ≡ Some other = sym first ∙ second in cc
 
 -- a chart has no sum that is too large
-no_large : (book : List Series) (x y : ℕ) (a b : ℤ) (g : Grid) (asked : Option ValueRange) (canvas : Canvas) (time : ℤ) → IsDerivedChart book x y a b g asked canvas → HasLargeSum book x y a b g time → ⊥
+no_large : (book : List Series) (x y : ℕ) (a b : ℤ) (g : Grid) (asked : Option ValueRange) (canvas : Canvas) (time : ℤ)
+    → IsDerivedChart book x y a b g asked canvas → HasLargeSum book x y a b g time → ⊥
 no_large book x y a b g asked canvas time chart large =
     let one = same_series book x large.are.one chart.are.one large.are.first chart.are.first in
     let other = same_series book y large.are.other chart.are.other large.are.second chart.are.second in
@@ -50,7 +51,8 @@ no_large book x y a b g asked canvas time chart large =
 
 one_grid : (r : Request) (g other : Grid) → IsGridOf r g → IsGridOf r other → g ≡ other
 one_grid r g other first second =
-    grid_same g other (first.shows.from ∙ sym second.shows.from) (first.shows.to ∙ sym second.shows.to) (first.canvas.columns ∙ sym second.canvas.columns) (first.canvas.rows ∙ sym second.canvas.rows)
+    grid_same g other (first.shows.from ∙ sym second.shows.from) (first.shows.to ∙ sym second.shows.to) (first.canvas.columns
+    ∙ sym second.canvas.columns) (first.canvas.rows ∙ sym second.canvas.rows)
 
 module _ (book : List Series) (r : Request) (text : List ℕ) (answer : IsAnswer book r text) where
   same_first : (x y : ℕ) → AreNamed book r x y → x ≡ answer.series.x
@@ -73,7 +75,9 @@ module _ (book : List Series) (r : Request) (text : List ℕ) (answer : IsAnswer
       let G : Grid → Type 0 = λ g. HasLargeSum book has.series.x has.series.y r.a r.b g has.time in
       let X : ℕ → Type 0 = λ i. HasLargeSum book i has.series.y r.a r.b answer.grid has.time in
       let Y : ℕ → Type 0 = λ i. HasLargeSum book answer.series.x i r.a r.b answer.grid has.time in
-      let large = subst Y (same_second has.series.x has.series.y has.series.named) (subst X (same_first has.series.x has.series.y has.series.named) (subst G (one_grid r has.grid answer.grid has.grid_is answer.grid_is) has.large)) in
+      let large = subst Y (same_second has.series.x has.series.y has.series.named)
+      (subst X (same_first has.series.x has.series.y has.series.named)
+      (subst G (one_grid r has.grid answer.grid has.grid_is answer.grid_is) has.large)) in
       no_large book answer.series.x answer.series.y r.a r.b answer.grid (asked_range r.range) answer.canvas has.time answer.chart large
 
 -- ---- a request is refused for one reason
@@ -87,7 +91,8 @@ module _ (book : List Series) (r : Request) where
   one_grid_not one (x, y, named, unlike) =
       let X : ℕ → Type 0 = λ i. AreShifted book i one.y one.shift in
       let Y : ℕ → Type 0 = λ i. AreShifted book x i one.shift in
-      unlike one.shift (subst Y (one_id (id_of r.second book) one.y y one.named.second named.second) (subst X (one_id (id_of r.first book) one.x x one.named.first named.first) one.shifted))
+      unlike one.shift (subst Y (one_id (id_of r.second book) one.y y one.named.second named.second)
+      (subst X (one_id (id_of r.first book) one.x x one.named.first named.first) one.shifted))
 
   pub one_refusal : (one other : DeriveRefusal) → IsRefused book r one → IsRefused book r other → one ≡ other
   one_refusal refusal.UnknownSeries refusal.UnknownSeries first second = refl
@@ -95,7 +100,8 @@ module _ (book : List Series) (r : Request) where
   one_refusal refusal.UnknownSeries refusal.BadWindow first second = absurd (named_not second.0.x second.0.y second.0.named first)
   one_refusal refusal.UnknownSeries refusal.BadCanvas first second = absurd (named_not second.0.x second.0.y second.0.named first)
   one_refusal refusal.UnknownSeries refusal.BadRange first second = absurd (named_not second.0.x second.0.y second.0.named first)
-  one_refusal refusal.UnknownSeries refusal.TooLarge first second = absurd (named_not second.series.x second.series.y second.series.named first)
+  one_refusal refusal.UnknownSeries refusal.TooLarge first second = absurd
+      (named_not second.series.x second.series.y second.series.named first)
   one_refusal refusal.NotOneGrid refusal.UnknownSeries first second = absurd (named_not first.0 first.1 first.2 second)
   one_refusal refusal.NotOneGrid refusal.NotOneGrid first second = refl
   one_refusal refusal.NotOneGrid refusal.BadWindow first second = absurd (one_grid_not second.0 first)
@@ -120,7 +126,8 @@ module _ (book : List Series) (r : Request) where
   one_refusal refusal.BadRange refusal.BadCanvas first second = absurd (no_sides r.w r.h first.2 first.3 second.2)
   one_refusal refusal.BadRange refusal.BadRange first second = refl
   one_refusal refusal.BadRange refusal.TooLarge first second = absurd (no_range r.range second.grid_is.range first.4)
-  one_refusal refusal.TooLarge refusal.UnknownSeries first second = absurd (named_not first.series.x first.series.y first.series.named second)
+  one_refusal refusal.TooLarge refusal.UnknownSeries first second = absurd
+      (named_not first.series.x first.series.y first.series.named second)
   one_refusal refusal.TooLarge refusal.NotOneGrid first second = absurd (one_grid_not first.series second)
   one_refusal refusal.TooLarge refusal.BadWindow first second = absurd (no_window r.t0 r.t1 first.grid_is.window second.1)
   one_refusal refusal.TooLarge refusal.BadCanvas first second = absurd (no_sides r.w r.h first.grid_is.wide first.grid_is.high second.2)
@@ -129,7 +136,8 @@ module _ (book : List Series) (r : Request) where
 
 -- ---- a request has one answer
 
-pub one_answer : ((book : List Series) (x y : ℕ) (a b : ℤ) (g : Grid) (asked : Option ValueRange) (one other : Canvas) → IsDerivedChart book x y a b g asked one → IsDerivedChart book x y a b g asked other → AreAlike one other)
+pub one_answer : ((book : List Series) (x y : ℕ) (a b : ℤ) (g : Grid) (asked : Option ValueRange) (one other : Canvas)
+    → IsDerivedChart book x y a b g asked one → IsDerivedChart book x y a b g asked other → AreAlike one other)
     → (book : List Series) (r : Request) (one other : List ℕ) → IsAnswer book r one → IsAnswer book r other → one ≡ other
 one_answer law book r one other first second =
     let asked = asked_range r.range in
@@ -154,23 +162,29 @@ split book [] others are = are
 split book (l ∷ ls) others are = split book ls others are.1
 
 -- the next line is so
-at_next : (book : List Series) (input : List ℕ) (answers : Request → List ℕ → Type 0) (first : FirstLines answers input) (given : ℕ) (line : Option (List ℕ)) → AreUnrefused book (told input)
+at_next : (book : List Series) (input : List ℕ) (answers : Request → List ℕ
+    → Type 0) (first : FirstLines answers input) (given : ℕ) (line : Option (List ℕ)) → AreUnrefused book (told input)
     → NextLine given first.rest line → says line ≡ true → IsUnrefused book line
 at_next book input answers first given line are next some =
     let whole = whole_front first.front first.rest first.begins.whole (some_left first.rest line next.later next.lines_are) in
     let P : List (Option (List ℕ)) → Type 0 = λ l. AreUnrefused book l in
-    let behind : told first.rest ≡ line ∷ filter says next.later = ap (filter says) next.lines_are ∙ ap (λ b. cond b (line ∷ filter says next.later) (filter says next.later)) some in
-    let all : told input ≡ told first.front ++ line ∷ filter says next.later = ap told first.begins.split ∙ told_behind first.front first.rest whole ∙ ap (λ l. told first.front ++ l) behind in
+    let behind : told first.rest ≡ line ∷ filter says next.later = ap (filter says) next.lines_are
+    ∙ ap (λ b. cond b (line ∷ filter says next.later) (filter says next.later)) some in
+    let all : told input ≡ told first.front ++ line ∷ filter says next.later = ap told first.begins.split
+    ∙ told_behind first.front first.rest whole ∙ ap (λ l. told first.front ++ l) behind in
     (split book (told first.front) (line ∷ filter says next.later) (subst P all are)).0
 
-pub bad_never : (book : List Series) (input : List ℕ) (before now : Option (List ℕ)) (place : ℕ) → AreUnrefused book (told input) → DrawsToBad (by_book book) input before now place → ⊥
+pub bad_never : (book : List Series) (input : List ℕ) (before now : Option (List ℕ)) (place : ℕ) → AreUnrefused book (told input)
+    → DrawsToBad (by_book book) input before now place → ⊥
 bad_never book input before now place are bad =
     let next = at_next book input (IsAnswer book) bad.drawn.first _ bad.line are bad.next bad.some in
     bad.none next.request next.says_it
 
-pub refused_never : (book : List Series) (input : List ℕ) (before now : Option (List ℕ)) (at : ℕ) (why : DeriveRefusal) → AreUnrefused book (told input) → DrawsToRefused (by_book book) input before now at why → ⊥
+pub refused_never : (book : List Series) (input : List ℕ) (before now : Option (List ℕ)) (at : ℕ) (why : DeriveRefusal)
+    → AreUnrefused book (told input) → DrawsToRefused (by_book book) input before now at why → ⊥
 refused_never book input before now at why are stop =
-    let next = at_next book input (IsAnswer book) stop.drawn.first _ stop.line are stop.next (says_true stop.line stop.refuses.request stop.refuses.says_it) in
+    let next = at_next book input (IsAnswer book) stop.drawn.first _ stop.line are stop.next
+    (says_true stop.line stop.refuses.request stop.refuses.says_it) in
     let same = says_one stop.line stop.refuses.request next.request stop.refuses.says_it next.says_it in
     let P : Request → Type 0 = λ r. IsRefused book r why in
     next.unrefused why (subst P same stop.refuses.refused)

@@ -22,4 +22,11 @@ pub none_yet : (answers : Request → List ℕ → Type 0) → AreAnswers answer
 none_yet answers = let P : List (Option (List ℕ)) → Type 0 = λ l. AreAnswers answers (filter says l) [] in subst P (sym lines_none) refl
 
 abbrev pub no_lines : (answers : Request → List ℕ → Type 0) (input : List ℕ) → FirstLines answers input
-no_lines answers input = record { front = []; rest = input; begins = record { split = refl; whole = inl (inl refl) }; early = omega arith; text = []; are = none_yet answers }
+no_lines answers input = record {
+  front = [];
+  rest = input;
+  begins = record { split = refl; whole = inl (inl refl) };
+  early = omega arith;
+  text = [];
+  are = none_yet answers;
+}

@@ -19,7 +19,8 @@ use Rattle.store_commands.specs.Lacking.{LacksRecord}
 use Rattle.store_commands.specs.Sides.{Side}
 use Rattle.stored_book.specs.Damage.{SaysNumbers}
 use Rattle.derive_command.specs.Answers.{Answering, AnswersLine}
-use Rattle.derive_command.specs.Catalogs.{AreOffGrid, AreOnGrid, HasTwo, HasTwoIn, IsBadOf, IsDrawable, IsRefusedBy, SaysTwo, times_at, by_disk, by_memory, in_memory, on_disk}
+use Rattle.derive_command.specs.Catalogs.{AreOffGrid, AreOnGrid, HasTwo, HasTwoIn, IsBadOf, IsDrawable, IsRefusedBy, SaysTwo, times_at}
+use Rattle.derive_command.specs.Catalogs.{by_disk, by_memory, in_memory, on_disk}
 use Rattle.derive_command.specs.Lines.{AreAnswers, DrawsFirst, EndsAnyhow, EndsSo, FirstLines}
 use Rattle.derive_command.specs.declared.derive_refusal.DeriveRefusal.{DeriveRefusal}
 use Rattle.derive_command.specs.declared.derive_refusal.DeriveRefusal.TheVariants as refusal
@@ -73,7 +74,14 @@ module _ (by to : Answering) (more : SaysMore by to) where
           damaged = more.damages is.damages.request page is.damages.damaged;
         };
       }
-      ends_to (ends.BadInput at) is = record { drawn = drawn_to is.drawn; line = is.line; next = is.next; some = is.some; none = is.none; at_is = is.at_is }
+      ends_to (ends.BadInput at) is = record {
+        drawn = drawn_to is.drawn;
+        line = is.line;
+        next = is.next;
+        some = is.some;
+        none = is.none;
+        at_is = is.at_is;
+      }
       ends_to ends.InputTooLong is = record { drawn = drawn_to is.drawn; unended = is.unended; past = is.past }
       ends_to (ends.RefusedLine at number) is = record {
         why = is.why;
@@ -99,21 +107,29 @@ module _ (by to : Answering) (more : SaysMore by to) where
 
 -- ---- the records of a disk
 
-module _ (count : ℕ) (new : View) (at : Side) (catalog : List StoredSeries) (s : Superblock) (rests : RestsNew count new) (counted : length catalog ≡ s.series)
+module _ (count : ℕ) (new : View) (at : Side) (catalog : List StoredSeries) (s : Superblock) (rests : RestsNew count new)
+    (counted : length catalog ≡ s.series)
     (keeps : Honest new → Keeps count s (pages_of count new.image 0)) (told : Honest new → AreAsTold (pages_of count new.image) catalog)
     (few : at.total ≤ count)
-    (same : (first second : List ℕ) (page : ℕ) → (at.told → IsBadOf at.view.size at.view.image first second page) → Honest new → IsBadOf count (pages_of count new.image) first second page) where
+    (same : (first second : List ℕ) (page : ℕ) → (at.told → IsBadOf at.view.size at.view.image first second page) → Honest new
+    → IsBadOf count (pages_of count new.image) first second page) where
   lacks_on : (name : List ℕ) → LacksName catalog name → LacksRecord count new name
-  lacks_on name lacks = lacks_record count new s name rests keeps (λ honest. no_record (pages_of count new.image) s catalog name counted (told honest) lacks)
+  lacks_on name lacks = lacks_record count new s name rests keeps
+      (λ honest. no_record (pages_of count new.image) s catalog name counted (told honest) lacks)
 
-  two_on : (AreSo : Axis → Axis → Type 0) (first second : List ℕ) → HasTwoIn AreSo catalog first second → SaysTwo AreSo count new first second
+  two_on : (AreSo : Axis → Axis → Type 0) (first second : List ℕ) → HasTwoIn AreSo catalog first second
+      → SaysTwo AreSo count new first second
   two_on AreSo first second two = λ honest.
       let P : Image → Type 0 = λ image. SaysNumbers count image (HasTwo AreSo image first second) in
       let pages = pages_of count new.image in
       let x = told honest two.x two.one two.x_at in
       let y = told honest two.y two.other two.y_at in
       let x_times : times_at pages two.x ≡ times_of two.one = λ i. record { start = (x i).start; step = (x i).step; slots = (x i).slots } in
-      let y_times : times_at pages two.y ≡ times_of two.other = λ i. record { start = (y i).start; step = (y i).step; slots = (y i).slots } in
+      let y_times : times_at pages two.y ≡ times_of two.other = λ i. record {
+        start = (y i).start;
+        step = (y i).step;
+        slots = (y i).slots;
+      } in
       let X : Axis → Type 0 = λ a. AreSo a (times_of two.other) in
       let Y : Axis → Type 0 = λ a. AreSo (times_at pages two.x) a in
       subst P (sym (rests.current honest)) (record {
@@ -144,9 +160,20 @@ module _ (count : ℕ) (new : View) (at : Side) (catalog : List StoredSeries) (s
 
   pub says_more : SaysMore (by_memory catalog at) (by_disk count new)
   says_more = record {
-    answers = λ r text is. record { drawable = drawable_on r is.drawable; canvas = is.canvas; width = is.width; height = is.height; text_is = is.text_is };
+    answers = λ r text is. record {
+      drawable = drawable_on r is.drawable;
+      canvas = is.canvas;
+      width = is.width;
+      height = is.height;
+      text_is = is.text_is;
+    };
     refuses = refused_on;
     damages = λ r page is.
-        let P : Image → Type 0 = λ image. IsBadOf count image r.first r.second page in
-        (drawable_on r is.0, (omega (arith, is.1.0, few), λ honest. subst P (sym (rests.current honest)) (same r.first r.second page is.1.1 honest)));
+        let P : Image → Type 0 = λ image. IsBadOf count image r.first r.second page in (
+          drawable_on r is.0,
+          (
+            omega (arith, is.1.0, few),
+            λ honest. subst P (sym (rests.current honest)) (same r.first r.second page is.1.1 honest),
+          ),
+        );
   }

@@ -1,5 +1,6 @@
 -- What lines of `derive` sent, by what a run of lines says.
-use Rattle.std.proofs.Common.{◌≡◌, ◌∙◌, ℕ, ◌+◌, Bool, cond, List, [], ◌∷◌, ◌++◌, length, map, Option, Some, None, Result, Ok, Err, IfSome, refl, ap, sym, subst, inl, inr}
+use Rattle.std.proofs.Common.{◌≡◌, ◌∙◌, ℕ, ◌+◌, Bool, cond, List, [], ◌∷◌, ◌++◌, length, map, Option, Some, None, Result, Ok, Err, IfSome}
+use Rattle.std.proofs.Common.{refl, ap, sym, subst, inl, inr}
 use Rattle.std.specs.List.{filter}
 use Rattle.std.specs.Prelude.{IfErr, OnOk}
 use Rattle.std.proofs.lemmas.List.{append-nil}
@@ -30,37 +31,49 @@ record Answered (known : Known) (all : List (Option (List ℕ))) (text : List �
   pub are : AreAnswers (answers_by known) (filter says all) text
   pub behind_is : behind ≡ known
 
-answered_from : (at : ℕ) (parts : List (List ℕ)) (known : Known) (text : List ℕ) (behind : Known) → Carries LineDoes known (given_from at parts) text behind → Answered known (map text_of parts) text behind
+answered_from : (at : ℕ) (parts : List (List ℕ)) (known : Known) (text : List ℕ) (behind : Known)
+    → Carries LineDoes known (given_from at parts) text behind → Answered known (map text_of parts) text behind
 answered_from at [] known text behind (none, same) = record { are = none; behind_is = same }
 answered_from at (part ∷ parts) known text behind follows =
     let C : Known → Type 0 = λ s. Carries LineDoes s (given_from (at + length part + 1) parts) follows.more behind in
-    by (text_of part) follows.does.1 (answered_from (at + length part + 1) parts known follows.more behind (subst C follows.does.0 follows.others))
+    by (text_of part) follows.does.1 (answered_from (at + length part + 1) parts known follows.more behind
+    (subst C follows.does.0 follows.others))
   where
-    by : (line : Option (List ℕ)) → IsSaid (answers_by known) line follows.first → Answered known (map text_of parts) follows.more behind → Answered known (line ∷ map text_of parts) text behind
+    by : (line : Option (List ℕ)) → IsSaid (answers_by known) line follows.first → Answered known (map text_of parts) follows.more behind
+        → Answered known (line ∷ map text_of parts) text behind
     by line (inl (empty, none)) rest =
         let L : Option (List ℕ) → Type 0 = λ l. AreAnswers (answers_by known) (filter says (l ∷ map text_of parts)) text in
         let T : List ℕ → Type 0 = λ t. AreAnswers (answers_by known) (filter says (map text_of parts)) t in
         let same : text ≡ follows.more = follows.texts ∙ ap (λ t. t ++ follows.more) none in
         record { are = subst L (sym empty) (subst T (sym same) rest.are); behind_is = rest.behind_is }
     by line (inr is) rest =
-        let R : Bool → Type 0 = λ v. AreAnswers (answers_by known) (cond v (line ∷ filter says (map text_of parts)) (filter says (map text_of parts))) text in
-        record { are = subst R (sym (says_true line is.request is.says_it)) (follows.first, follows.more, is, rest.are, follows.texts); behind_is = rest.behind_is }
+        let R : Bool → Type 0 = λ v. AreAnswers (answers_by known)
+        (cond v (line ∷ filter says (map text_of parts)) (filter says (map text_of parts))) text in
+        record {
+          are = subst R (sym (says_true line is.request is.says_it)) (follows.first, follows.more, is, rest.are, follows.texts);
+          behind_is = rest.behind_is;
+        }
 
-answered_lines : (front : List ℕ) (known : Known) (text : List ℕ) (behind : Known) → Carries LineDoes known (given_lines front) text behind → Answered known (lines front) text behind
+answered_lines : (front : List ℕ) (known : Known) (text : List ℕ) (behind : Known) → Carries LineDoes known (given_lines front) text behind
+    → Answered known (lines front) text behind
 unfolding lines given_lines
 answered_lines front known text behind carries = answered_from 0 (split_lines front) known text behind carries
 
-answered : (front : List ℕ) (done : List Given) (known : Known) (text : List ℕ) (behind : Known) → unpaused done ≡ given_lines front → Carries LineDoes known done text behind → Answered known (lines front) text behind
+answered : (front : List ℕ) (done : List Given) (known : Known) (text : List ℕ) (behind : Known) → unpaused done ≡ given_lines front
+    → Carries LineDoes known done text behind → Answered known (lines front) text behind
 answered front done known text behind are carries =
     let P : List Given → Type 0 = λ l. Carries LineDoes known l text behind in
-    answered_lines front known text behind (subst P are (carries_unpaused LineDoes (λ state said later did. (did.1, did.0)) done known text behind carries))
+    answered_lines front known text behind (subst P are
+    (carries_unpaused LineDoes (λ state said later did. (did.1, did.0)) done known text behind carries))
 
 -- at the end nothing is sent
 end_none : (known : Known) (text : List ℕ) (behind : Known) → Carries LineDoes known (given.End ∷ []) text behind → text ≡ []
 end_none known text behind f = f.texts ∙ ap (λ t. t ++ f.more) f.does.1 ∙ f.others.0
 
 module _ (known : Known) (pages : Side) (input : List ℕ) where
-  all_so : (IsNow : Known → Type 0) (before now : Option (List ℕ)) (pieces pieces' : ℕ) → runs.Runs LineDoes known (runs.AreAll pieces pieces') IsNow (Some input) before now → DrawsAll (answering_by known pages) input before now
+  all_so : (IsNow : Known → Type 0) (before now : Option (List ℕ)) (pieces pieces' : ℕ)
+      → runs.Runs LineDoes known (runs.AreAll pieces pieces') IsNow (Some input) before now
+      → DrawsAll (answering_by known pages) input before now
   all_so IsNow before now pieces pieces' all =
       let done = all.done in
       let are = all.are in
@@ -87,7 +100,9 @@ module _ (known : Known) (pages : Side) (input : List ℕ) where
 
   -- a line stopped the run
   module _ (left before now : Option (List ℕ)) (first : FirstLines (answers_by known) input) where
-    line_ends : (at : ℕ) (line : Option (List ℕ)) → at ≡ length first.front → NextLine (length first.front) first.rest line → (end : End) → LineStops (answering_by known pages) line at (sent_after first.text before) now end → EndsSo (answering_by known pages) input left before now end
+    line_ends : (at : ℕ) (line : Option (List ℕ)) → at ≡ length first.front → NextLine (length first.front) first.rest line → (end : End)
+        → LineStops (answering_by known pages) line at (sent_after first.text before) now end
+        → EndsSo (answering_by known pages) input left before now end
     line_ends at line at_is next ends.NoMemory unsent = record { first = first; sent = unsent }
     line_ends at line at_is next ends.SendFault (text, is, part) = record {
       first = first;
@@ -127,15 +142,18 @@ module _ (known : Known) (pages : Side) (input : List ℕ) where
     }
     line_ends at line at_is next end why = absurd why
 
-    next_ends : (next : Given) → IsNext (length first.front) first.rest next → (end : End) → LineStopsSo known next pages (sent_after first.text before) now end → EndsSo (answering_by known pages) input left before now end
+    next_ends : (next : Given) → IsNext (length first.front) first.rest next → (end : End)
+        → LineStopsSo known next pages (sent_after first.text before) now end → EndsSo (answering_by known pages) input left before now end
     next_ends (given.Line at line) (at_is, next) end why = line_ends at line at_is next end why
     next_ends given.Pause next end why = absurd why
     next_ends given.End none end why = absurd why
 
   -- how the run ended
-  ends_so : {T : Type 0} (IsNow : Known → Type 0) (left before now : Option (List ℕ)) (pieces pieces' : ℕ) (answer : Result T (LinesStop End))
+  ends_so : {T : Type 0} (IsNow : Known → Type 0) (left before now : Option (List ℕ)) (pieces pieces' : ℕ)
+      (answer : Result T (LinesStop End))
       → OnOk answer (runs.Runs LineDoes known (runs.AreAll pieces pieces') IsNow (Some input) before now)
-      → IfErr answer (runs.StopsSo LineDoes (λ b it end was. LineStopsSo b it pages was now end) IsNow known (Some input) left before now pieces pieces')
+      → IfErr answer (runs.StopsSo LineDoes (λ b it end was. LineStopsSo b it pages was now end) IsNow known
+      (Some input) left before now pieces pieces')
       → EndsSo (answering_by known pages) input left before now (run_end answer)
   ends_so {T} IsNow left before now pieces pieces' (Ok v) all is = all_so IsNow before now pieces pieces' all
   ends_so {T} IsNow left before now pieces pieces' (Err (stop.Fault fault.ReadFault)) all is = record {
@@ -150,17 +168,22 @@ module _ (known : Known) (pages : Side) (input : List ℕ) where
   }
   ends_so {T} IsNow left before now pieces pieces' (Err (stop.Work end)) all is =
       let B : Known → Type 0 = λ b. LineStopsSo b is.next pages (sent_after is.done.text before) now end in
-      next_ends left before now (firsts is.done is.are.first) is.next is.are.next_is end (subst B (firsts_are is.done is.are.first).behind_is is.why)
+      next_ends left before now (firsts is.done is.are.first) is.next is.are.next_is end
+      (subst B (firsts_are is.done is.are.first).behind_is is.why)
 
 -- the same of an input that may be told
-pub ends_told : {T : Type 0} (known : Known) (IsNow : Known → Type 0) (pages : Side) (input left before now : Option (List ℕ)) (pieces pieces' : ℕ) (answer : Result T (LinesStop End))
+pub ends_told : {T : Type 0} (known : Known) (IsNow : Known
+    → Type 0) (pages : Side) (input left before now : Option (List ℕ)) (pieces pieces' : ℕ) (answer : Result T (LinesStop End))
     → OnOk answer (runs.Runs LineDoes known (runs.AreAll pieces pieces') IsNow input before now)
-    → IfErr answer (runs.StopsSo LineDoes (λ b it end was. LineStopsSo b it pages was now end) IsNow known input left before now pieces pieces')
+    → IfErr answer (runs.StopsSo LineDoes (λ b it end was. LineStopsSo b it pages was now end) IsNow known input left before now pieces
+    pieces')
     → IfSome input (λ bytes. EndsSo (answering_by known pages) bytes left before now (run_end answer))
 ends_told {T} known IsNow pages None left before now pieces pieces' answer all is = tt
-ends_told {T} known IsNow pages (Some bytes) left before now pieces pieces' answer all is = ends_so known pages bytes IsNow left before now pieces pieces' answer all is
+ends_told {T} known IsNow pages (Some bytes) left before now pieces pieces' answer all is = ends_so known pages bytes IsNow left before now
+    pieces pieces' answer all is
 
 -- where no line was given
-pub none_told : (by : Answering) (input left before : Option (List ℕ)) → IfSome input (λ bytes. EndsSo by bytes left before before ends.NoMemory)
+pub none_told : (by : Answering) (input left before : Option (List ℕ))
+    → IfSome input (λ bytes. EndsSo by bytes left before before ends.NoMemory)
 none_told by None left before = tt
 none_told by (Some bytes) left before = record { first = no_lines by.answers bytes; sent = sent_none before }

@@ -17,10 +17,12 @@ use Rattle.derive_command.specs.Requests.{Spells, SpellsNumbers, SpellsWords, wo
 -- ---- words
 
 same_integer : (one other : List ℕ) (m n : ℤ) → one ≡ other → SpellsInteger one m → SpellsInteger other n → m ≡ n
-same_integer one other m n is first second = let P : List ℕ → Type 0 = λ t. SpellsInteger t n in one_integer one m n first (subst P (sym is) second)
+same_integer one other m n is first second = let P : List ℕ → Type 0 = λ t. SpellsInteger t n in
+    one_integer one m n first (subst P (sym is) second)
 
 same_natural : (one other : List ℕ) (m n : ℕ) → one ≡ other → SpellsNatural one m → SpellsNatural other n → m ≡ n
-same_natural one other m n is first second = let P : List ℕ → Type 0 = λ t. SpellsNatural t n in one_natural one m n first (subst P (sym is) second)
+same_natural one other m n is first second = let P : List ℕ → Type 0 = λ t. SpellsNatural t n in
+    one_natural one m n first (subst P (sym is) second)
 
 same_range : (one other : List ℕ) (m n : RangeWord) → one ≡ other → SpellsRange m one → SpellsRange n other → m ≡ n
 same_range one other m n is first second =
@@ -47,14 +49,16 @@ words_one words first second one two =
     let h : first.h ≡ second.h = same_natural one.h two.h first.h second.h (first_same _ _ _ _ l5) one.h_is two.h_is in
     let t0 : first.t0 ≡ second.t0 = same_integer one.t0 two.t0 first.t0 second.t0 (first_same _ _ _ _ l6) one.t0_is two.t0_is in
     let t1 : first.t1 ≡ second.t1 = same_integer one.t1 two.t1 first.t1 second.t1 (first_same _ _ _ _ l7) one.t1_is two.t1_is in
-    let range : first.range ≡ second.range = same_range one.range two.range first.range second.range (first_same _ _ _ _ l8) one.range_is two.range_is in
+    let range : first.range ≡ second.range = same_range one.range two.range first.range second.range
+    (first_same _ _ _ _ l8) one.range_is two.range_is in
     λ i. record { first = first_is i; second = second_is i; a = a i; b = b i; w = w i; h = h i; t0 = t0 i; t1 = t1 i; range = range i }
 
 pub one_request : (line : List ℕ) (first second : Request) → Spells first line → Spells second line → first ≡ second
 one_request line first second one two = words_one (tokens line) first second one two
 
 -- the numbers that the words of a request spell
-pub no_numbers : (line : List ℕ) (words : Words) → tokens line ≡ words_of words → ((n : Numbers) → SpellsNumbers words n → ⊥) → (r : Request) → Spells r line → ⊥
+pub no_numbers : (line : List ℕ) (words : Words) → tokens line ≡ words_of words → ((n : Numbers) → SpellsNumbers words n → ⊥)
+    → (r : Request) → Spells r line → ⊥
 no_numbers line words is none r s =
     let l0 = sym s.words_are ∙ is in
     let l1 = rest_same _ _ _ _ l0 in
@@ -81,7 +85,8 @@ no_numbers line words is none r s =
     })
 
 -- nine tokens aren't more
-pub no_tenth : (line range : List ℕ) (x y a b w h t0 t1 first rest : List ℕ) (factors sides times : List ℕ) → tokens line ≡ x ∷ y ∷ tokens factors → tokens factors ≡ a ∷ b ∷ tokens sides → tokens sides ≡ w ∷ h ∷ tokens times
+pub no_tenth : (line range : List ℕ) (x y a b w h t0 t1 first rest : List ℕ) (factors sides times : List ℕ)
+    → tokens line ≡ x ∷ y ∷ tokens factors → tokens factors ≡ a ∷ b ∷ tokens sides → tokens sides ≡ w ∷ h ∷ tokens times
     → tokens times ≡ t0 ∷ t1 ∷ tokens range → tokens range ≡ first ∷ tokens rest → length (tokens line) ≡ 9 → ⊥
 no_tenth line range x y a b w h t0 t1 first rest factors sides times one two three four more nine =
     absurd (omega (arith, some_token rest, ap length one, ap length two, ap length three, ap length four, ap length more, nine))

@@ -17,7 +17,8 @@ use Rattle.series_book.specs.declared.refusals.Refusal.TheVariants as line
 use Rattle.series_pair.specs.Derived.{AreShifted, AreUnlike, HasLargeSum, IsDerivedChart}
 use Rattle.derive_command.specs.Requests.{Says}
 use Rattle.derive_command.specs.declared.derive_refusal.DeriveRefusal.{DeriveRefusal}
-use Rattle.derive_command.specs.declared.derive_refusal.DeriveRefusal.TheVariants.{UnknownSeries, NotOneGrid, BadWindow, BadCanvas, BadRange, TooLarge}
+use Rattle.derive_command.specs.declared.derive_refusal.DeriveRefusal.TheVariants.{UnknownSeries, NotOneGrid, BadWindow, BadCanvas}
+use Rattle.derive_command.specs.declared.derive_refusal.DeriveRefusal.TheVariants.{BadRange, TooLarge}
 use Rattle.derive_command.specs.declared.request.Request.{Request}
 
 -- ---- what a request asks for

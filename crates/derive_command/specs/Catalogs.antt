@@ -19,7 +19,8 @@ use Rattle.stored_book.specs.Records.{entry}
 use Rattle.stored_book.specs.Standing.{book_pages}
 use Rattle.derive_command.specs.Answers.{Answering, IsGridOf}
 use Rattle.derive_command.specs.declared.derive_refusal.DeriveRefusal.{DeriveRefusal}
-use Rattle.derive_command.specs.declared.derive_refusal.DeriveRefusal.TheVariants.{UnknownSeries, NotOneGrid, BadWindow, BadCanvas, BadRange, TooLarge}
+use Rattle.derive_command.specs.declared.derive_refusal.DeriveRefusal.TheVariants.{UnknownSeries, NotOneGrid, BadWindow, BadCanvas}
+use Rattle.derive_command.specs.declared.derive_refusal.DeriveRefusal.TheVariants.{BadRange, TooLarge}
 use Rattle.derive_command.specs.declared.request.Request.{Request}
 
 -- ---- what a catalog says of names
@@ -113,7 +114,8 @@ in_memory catalog = record { lacks = LacksName catalog; on_grid = HasTwoIn AreOn
 -- over these pages, which are as they are told where reads give so
 abbrev pub by_memory : List StoredSeries → Side → Answering
 by_memory catalog at =
-    by_catalog (in_memory catalog) (λ first second page. (page < at.total) × (at.told → IsBadOf at.view.size at.view.image first second page))
+    by_catalog (in_memory catalog) (λ first second page. (page < at.total)
+    × (at.told → IsBadOf at.view.size at.view.image first second page))
 
 -- what page 0 and the records of a disk say, where reads give what a crash may leave
 abbrev pub SaysTwo : (Axis → Axis → Type 0) → ℕ → View → List ℕ → List ℕ → Type 0
@@ -121,9 +123,14 @@ SaysTwo AreSo count disk first second =
     Honest disk → SaysNumbers count (book_pages count disk.image) (HasTwo AreSo (book_pages count disk.image) first second)
 
 abbrev pub on_disk : ℕ → View → SaidOfNames
-on_disk count disk = record { lacks = LacksRecord count disk; on_grid = SaysTwo AreOnGrid count disk; off_grid = SaysTwo AreOffGrid count disk }
+on_disk count disk = record {
+  lacks = LacksRecord count disk;
+  on_grid = SaysTwo AreOnGrid count disk;
+  off_grid = SaysTwo AreOffGrid count disk;
+}
 
 -- over the pages of the disk, which are so many
 abbrev pub by_disk : ℕ → View → Answering
 by_disk count disk =
-    by_catalog (on_disk count disk) (λ first second page. (page < count) × (Honest disk → IsBadOf count (book_pages count disk.image) first second page))
+    by_catalog (on_disk count disk) (λ first second page. (page < count)
+    × (Honest disk → IsBadOf count (book_pages count disk.image) first second page))

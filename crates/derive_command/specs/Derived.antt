@@ -17,7 +17,8 @@ use Rattle.store_commands.specs.Damaged.{IsDamagedAtFirst, IsDamagedLater}
 use Rattle.store_commands.specs.Traffic.{IsLong, Traffic, WasRead}
 use Rattle.derive_command.specs.Answers.{by_book, number_of}
 use Rattle.derive_command.specs.Catalogs.{by_disk}
-use Rattle.derive_command.specs.Lines.{DrawsAll, DrawsFirst, DrawsPart, DrawsTaken, DrawsToBad, DrawsToRefused, DrawsWithin, EndsAnyhow, EndsSo}
+use Rattle.derive_command.specs.Lines.{DrawsAll, DrawsFirst, DrawsPart, DrawsTaken, DrawsToBad, DrawsToRefused, DrawsWithin, EndsAnyhow}
+use Rattle.derive_command.specs.Lines.{EndsSo}
 use Rattle.derive_command.specs.declared.derive_refusal.DeriveRefusal.{DeriveRefusal}
 
 -- all lines of the input are requests, and their answers, by the book that the disk holds, were sent
@@ -73,7 +74,8 @@ IsDeriveCause end old new t = ⊥
 -- Why `derive` ended, and what it sent by the book that the disk holds, which stays: at each moment a crash leaves it.
 pub record DeriveEnds (old new : View) (t : Traffic) (end : End) : Type 0 where
   pub cause : IsDeriveCause end old new t
-  pub sent : IfSome t.left (λ input. OfBook (page_count old.size) old (λ total book. EndsSo (by_book book) input t.left_now t.sent t.sent_now end))
+  pub sent : IfSome t.left (λ input. OfBook (page_count old.size) old
+      (λ total book. EndsSo (by_book book) input t.left_now t.sent t.sent_now end))
   pub crash : LeavesSame (page_count old.size) old new
   pub holds : OfBook (page_count old.size) old (λ total book. HoldsBook (page_count old.size) total book new)
   -- whatever the disk holds, by the records of its catalog

@@ -10,7 +10,8 @@ use Rattle.chart_world.specs.Fronts.{says}
 use Rattle.gate_pages.specs.Pages.{GoesOn}
 use Rattle.plain_chart.specs.declared.value_range.ValueRange.{ValueRange}
 use Rattle.run_ends.specs.declared.ending.End.{End}
-use Rattle.run_ends.specs.declared.ending.End.TheVariants.{NoMemory, ReadFault, SendFault, DiskFault, DamagedPage, BadInput, InputTooLong, RefusedLine}
+use Rattle.run_ends.specs.declared.ending.End.TheVariants.{NoMemory, ReadFault, SendFault, DiskFault, DamagedPage, BadInput, InputTooLong}
+use Rattle.run_ends.specs.declared.ending.End.TheVariants.{RefusedLine}
 use Rattle.series_book.specs.declared.one_series.Series.{Series}
 use Rattle.series_catalog.specs.declared.stored_series.StoredSeries.{StoredSeries}
 use Rattle.series_store.specs.Asking.{IsNamedAt, LacksName}
@@ -19,7 +20,8 @@ use Rattle.series_pair.specs.Derived.{AreShifted}
 use Rattle.series_pair.specs.declared.sum_error.SumError.{SumError}
 use Rattle.series_pair.specs.declared.sum_error.SumError.TheVariants as sum
 use Rattle.store_commands.specs.Sides.{Side}
-use Rattle.derive_command.specs.Answers.{Answering, AnswersLine, AreNamed, DamagesLine, IsGridOf, IsRefused, RefusesLine, asked_range, number_of}
+use Rattle.derive_command.specs.Answers.{Answering, AnswersLine, AreNamed, DamagesLine, IsGridOf, IsRefused, RefusesLine, asked_range}
+use Rattle.derive_command.specs.Answers.{number_of}
 use Rattle.derive_command.specs.Catalogs.{AreOnGrid, HasTwoIn}
 use Rattle.derive_command.specs.Requests.{SaysNone}
 use Rattle.derive_command.specs.declared.asked.Asked.{Asked}
@@ -100,7 +102,8 @@ pub record SendsPartOfAnswer (answers : Request → List ℕ → Type 0) (r : Re
   pub part : PartSent text before now
 
 -- the request is refused for the reason of this number, and nothing was sent
-pub record RefusesAt (refuses : Request → DeriveRefusal → Type 0) (r : Request) (at place number : ℕ) (before now : Option (List ℕ)) : Type 0 where
+pub record RefusesAt (refuses : Request → DeriveRefusal
+    → Type 0) (r : Request) (at place number : ℕ) (before now : Option (List ℕ)) : Type 0 where
   pub place_is : place ≡ at
   pub why : DeriveRefusal
   pub number_is : number ≡ number_of why
@@ -117,7 +120,8 @@ RequestStops by r at before now (RefusedLine place number) = RefusesAt by.refuse
 RequestStops by r at before now end = ⊥
 
 -- what a call does that answers a request
-pub record DoesRequest {T : Type 0} (by : Answering) (r : Request) (at : ℕ) (result : Result T End) (before now : Option (List ℕ)) : Type 0 where
+pub record DoesRequest {T : Type 0} (by : Answering) (r : Request) (at : ℕ) (result : Result T End)
+    (before now : Option (List ℕ)) : Type 0 where
   pub done : OnOk result (SendsAnswer by.answers r before now)
   pub stops : IfErr result (RequestStops by r at before now)
 
@@ -138,7 +142,8 @@ pub record LineBad (line : Option (List ℕ)) (at place : ℕ) (before now : Opt
   pub unsent : now ≡ before
 
 -- it says a request that is refused for the reason of this number
-pub record LineRefused (refuses : Request → DeriveRefusal → Type 0) (line : Option (List ℕ)) (at place number : ℕ) (before now : Option (List ℕ))
+pub record LineRefused (refuses : Request → DeriveRefusal
+    → Type 0) (line : Option (List ℕ)) (at place number : ℕ) (before now : Option (List ℕ))
     : Type 0 where
   pub place_is : place ≡ at
   pub why : DeriveRefusal
@@ -157,7 +162,8 @@ LineStops by line at before now (RefusedLine place number) = LineRefused by.refu
 LineStops by line at before now end = ⊥
 
 -- what a call does that answers a line
-pub record DoesLine {T : Type 0} (by : Answering) (line : Option (List ℕ)) (at : ℕ) (result : Result T End) (before now : Option (List ℕ)) : Type 0 where
+pub record DoesLine {T : Type 0} (by : Answering) (line : Option (List ℕ)) (at : ℕ) (result : Result T End)
+    (before now : Option (List ℕ)) : Type 0 where
   pub done : OnOk result (LineDone by.answers line before now)
   pub stops : IfErr result (LineStops by line at before now)
 

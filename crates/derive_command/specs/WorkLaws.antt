@@ -10,7 +10,8 @@ use Rattle.gate_pages.specs.GateLaws.{goes_none, goes_then as goes_on_then}
 use Rattle.gate_pages.specs.Pages.{GoesOn, Quiet}
 use Rattle.page_space.specs.declared.superblock.Superblock.{Superblock}
 use Rattle.run_ends.specs.declared.ending.End.{End}
-use Rattle.run_ends.specs.declared.ending.End.TheVariants.{NoMemory, ReadFault, SendFault, DiskFault, DamagedPage, BadInput, InputTooLong, RefusedLine}
+use Rattle.run_ends.specs.declared.ending.End.TheVariants.{NoMemory, ReadFault, SendFault, DiskFault, DamagedPage, BadInput, InputTooLong}
+use Rattle.run_ends.specs.declared.ending.End.TheVariants.{RefusedLine}
 use Rattle.series_book.specs.declared.one_series.Series.{Series}
 use Rattle.series_catalog.specs.Shown.{series_in}
 use Rattle.series_catalog.specs.declared.catalog.Catalog.{Catalog}
@@ -20,12 +21,14 @@ use Rattle.store_commands.specs.Sides.{Side, AreBeside}
 use Rattle.derive_command.specs.Doing.{Goes, IsCause}
 use Rattle.derive_command.specs.Working.{Known, StandFor, StandsSo}
 
-pub stand_kept : {Told Told' : Type 0} (old new : View) (book : List Series) → (Told → Told') → DiskKept old new → StandFor Told old.image book → StandFor Told' new.image book
+pub stand_kept : {Told Told' : Type 0} (old new : View) (book : List Series) → (Told → Told') → DiskKept old new
+    → StandFor Told old.image book → StandFor Told' new.image book
 stand_kept {Told} {Told'} old new book told kept stand =
     let P : Image → Type 0 = λ i. StandsForBook i stand.1.0 book in
     (told stand.0, (stand.1.0, subst P (sym kept.image) stand.1.1))
 
-pub stands_kept : {Told Told' : Type 0} (old new : View) (catalog catalog' : List StoredSeries) (known : Known) → catalog' ≡ catalog → (Told → Told')
+pub stands_kept : {Told Told' : Type 0} (old new : View) (catalog catalog' : List StoredSeries) (known : Known) → catalog' ≡ catalog
+    → (Told → Told')
     → DiskKept old new → StandsSo Told old.image catalog known → StandsSo Told' new.image catalog' known
 stands_kept {Told} {Told'} old new catalog catalog' (inl book) same told kept stands = stand_kept old new book told kept stands
 stands_kept {Told} {Told'} old new catalog catalog' (inr read) same told kept stands = same ∙ stands
@@ -79,13 +82,18 @@ goes_further old mid new first second = record {
 }
 
 -- quiet calls
-pub quiet_between : (old new : View) → Passes old new (Now old) (Quiet old) → Passes old new (Now old) (λ count. (sent_now old ≤ count) × (count ≤ sent_now new))
+pub quiet_between : (old new : View) → Passes old new (Now old) (Quiet old)
+    → Passes old new (Now old) (λ count. (sent_now old ≤ count) × (count ≤ sent_now new))
 quiet_between old new passes =
     let same = sent_same old new (Now old) passes in
-    passes_weaker old new (Now old) (Now old) (Quiet old) (λ count. (sent_now old ≤ count) × (count ≤ sent_now new)) (λ image left. left) (λ count quiet. (omega (arith, quiet), omega (arith, quiet, same))) passes
+    passes_weaker old new (Now old) (Now old) (Quiet old) (λ count. (sent_now old ≤ count)
+    × (count ≤ sent_now new)) (λ image left. left) (λ count quiet. (omega (arith, quiet), omega (arith, quiet, same))) passes
 
 -- input is taken
-pub goes_takes : (old new : Side) → DiskKept old.view new.view → Passes old.view new.view (Now old.view) (λ count. count ≡ sent_now old.view) → (old.told → new.told) → (new.told → old.told) → GoesOn old.under new.under → new.total ≡ old.total → old.read_faults ≤ new.read_faults → old.send_faults ≤ new.send_faults → Goes old new
+pub goes_takes : (old new : Side) → DiskKept old.view new.view
+    → Passes old.view new.view (Now old.view) (λ count. count ≡ sent_now old.view) → (old.told → new.told) → (new.told → old.told)
+    → GoesOn old.under new.under → new.total ≡ old.total → old.read_faults ≤ new.read_faults → old.send_faults ≤ new.send_faults
+    → Goes old new
 goes_takes old new kept passes told was_told on total_is reads sends = record {
   time = quiet_between old.view new.view passes;
   is_told = told;
@@ -103,11 +111,14 @@ goes_takes old new kept passes told was_told on total_is reads sends = record {
 }
 
 -- why a later call ended is why all ended, where no fault was counted before
-module _ (old mid new : Side) (was : AreBeside old.view old.read_faults old.send_faults) (are : AreBeside mid.view mid.read_faults mid.send_faults) (quiet : CountsFault None old.view mid.view) where
+module _ (old mid new : Side) (was : AreBeside old.view old.read_faults old.send_faults)
+    (are : AreBeside mid.view mid.read_faults mid.send_faults) (quiet : CountsFault None old.view mid.view) where
   pub cause_later : (end : End) → Goes old mid → IsCause end mid new → IsCause end old new
   cause_later NoMemory goes is = tt
-  cause_later ReadFault goes is = risen_since old.read_faults mid.read_faults new.read_faults (sym are.reads_are ∙ takes_stay old.view mid.view quiet ∙ was.reads_are) is
-  cause_later SendFault goes is = risen_since old.send_faults mid.send_faults new.send_faults (sym are.sends_are ∙ sends_stay old.view mid.view quiet ∙ was.sends_are) is
+  cause_later ReadFault goes is = risen_since old.read_faults mid.read_faults new.read_faults (sym are.reads_are
+      ∙ takes_stay old.view mid.view quiet ∙ was.reads_are) is
+  cause_later SendFault goes is = risen_since old.send_faults mid.send_faults new.send_faults (sym are.sends_are
+      ∙ sends_stay old.view mid.view quiet ∙ was.sends_are) is
   cause_later DiskFault goes is = risen_since old.view.faults mid.view.faults new.view.faults (disk_stays old.view mid.view quiet) is
   cause_later (DamagedPage page) goes is = (omega (arith, is.0, goes.total_is), is.1)
   cause_later (BadInput at) goes is = tt

@@ -62,7 +62,8 @@ fn send_picture<P: PageWorld>(
     ensures left { P.left (shown.pages store.new) ≡ P.left (shown.pages store.old) }
     ensures pieces { P.pieces (shown.pages store.new) ≡ P.pieces (shown.pages store.old) }
     ensures read_faults { P.read_faults (shown.pages store.new) ≡ P.read_faults (shown.pages store.old) }
-    ensures beside { shown.Keeps (P.sends (length (picture chart.now)) (shown.pages store.old) (shown.pages store.new)) store.old store.new }
+    ensures beside { shown.Keeps (P.sends (length (picture chart.now)) (shown.pages store.old) (shown.pages store.new)) store.old
+        store.new }
     ensures faults { CountsFault (fault_in end_fault result) (shown.view store.old) (shown.view store.new) }
 {
     let Ok(text) = pbm(alloc, chart) else {
@@ -84,9 +85,11 @@ fn answer_request<P: PageWorld>(
     requires sound { shown.IsSound store.old }
     requires a { IsFactor request.now.a }
     requires b { IsFactor request.now.b }
-    ensures records { DoesRequest (by_memory (shown.catalog store.old) (side_of P.Streams store.new)) request.now at result (P.sent (shown.pages store.old)) (P.sent (shown.pages store.new)) }
+    ensures records { DoesRequest (by_memory (shown.catalog store.old) (side_of P.Streams store.new)) request.now at result
+        (P.sent (shown.pages store.old)) (P.sent (shown.pages store.new)) }
     ensures catalog { shown.catalog store.new ≡ shown.catalog store.old }
-    ensures does { shown.ForBook store.old (λ total book. DoesRequest (by_book book) request.now at result (P.sent (shown.pages store.old)) (P.sent (shown.pages store.new))) }
+    ensures does { shown.ForBook store.old (λ total book. DoesRequest (by_book book) request.now at result (P.sent (shown.pages store.old))
+        (P.sent (shown.pages store.new))) }
     ensures goes { Goes (side_of P.Streams store.old) (side_of P.Streams store.new) }
     ensures cause { IfErr result (λ e. IsCause e (side_of P.Streams store.old) (side_of P.Streams store.new)) }
     ensures long { result ≢ Err End.InputTooLong }
@@ -121,9 +124,11 @@ pub(crate) fn answer_line<P: PageWorld>(
     line: &[u8],
 ) -> Result<(), End>
     requires sound { shown.IsSound store.old }
-    ensures records { DoesLine (by_memory (shown.catalog store.old) (side_of P.Streams store.new)) (Some line.now) at result (P.sent (shown.pages store.old)) (P.sent (shown.pages store.new)) }
+    ensures records { DoesLine (by_memory (shown.catalog store.old) (side_of P.Streams store.new)) (Some line.now) at result
+        (P.sent (shown.pages store.old)) (P.sent (shown.pages store.new)) }
     ensures catalog { shown.catalog store.new ≡ shown.catalog store.old }
-    ensures does { shown.ForBook store.old (λ total book. DoesLine (by_book book) (Some line.now) at result (P.sent (shown.pages store.old)) (P.sent (shown.pages store.new))) }
+    ensures does { shown.ForBook store.old (λ total book. DoesLine (by_book book) (Some line.now) at result (P.sent (shown.pages store.old))
+        (P.sent (shown.pages store.new))) }
     ensures goes { Goes (side_of P.Streams store.old) (side_of P.Streams store.new) }
     ensures cause { IfErr result (λ e. IsCause e (side_of P.Streams store.old) (side_of P.Streams store.new)) }
     ensures long { result ≢ Err End.InputTooLong }

@@ -25,9 +25,11 @@ use series_store::Store;
 pub fn asked_of<P: Pages>(store: &Store<P>, request: &Request) -> Result<Asked, DeriveRefusal>
     requires a { IsFactor request.now.a }
     requires b { IsFactor request.now.b }
-    ensures asked { shown.ForSoundBook store.now (λ total book. MatchResult result (IsAsked book request.now) (IsRefused book request.now)) }
+    ensures asked { shown.ForSoundBook store.now (λ total book. MatchResult result (IsAsked book request.now)
+        (IsRefused book request.now)) }
     // whatever the pages are
-    ensures records { MatchResult result (IsAskedIn (shown.catalog store.now) request.now) (IsRefusedBy (in_memory (shown.catalog store.now)) request.now) }
+    ensures records { MatchResult result (IsAskedIn (shown.catalog store.now) request.now)
+        (IsRefusedBy (in_memory (shown.catalog store.now)) request.now) }
     ensures lacks { result ≡ Err DeriveRefusal.UnknownSeries → LacksOne (shown.catalog store.now) request.now }
     ensures first { IfOk result (λ asked. asked.x < length (shown.catalog store.now)) }
     ensures second { IfOk result (λ asked. asked.y < length (shown.catalog store.now)) }

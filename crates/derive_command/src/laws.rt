@@ -16,16 +16,20 @@ pub fn lines_spell_one_request()
 
 /// A request has one answer at most, or is refused, for one reason.
 pub fn requests_have_one_answer()
-    ensures answer { (book : List Series) (request : Request) (one other : List ℕ) → IsAnswer book request one → IsAnswer book request other → one ≡ other }
-    ensures refusal { (book : List Series) (request : Request) (one other : DeriveRefusal) → IsRefused book request one → IsRefused book request other → one ≡ other }
-    ensures apart { (book : List Series) (request : Request) (text : List ℕ) (why : DeriveRefusal) → IsAnswer book request text → IsRefused book request why → ⊥ }
+    ensures answer { (book : List Series) (request : Request) (one other : List ℕ) → IsAnswer book request one → IsAnswer book request other
+        → one ≡ other }
+    ensures refusal { (book : List Series) (request : Request) (one other : DeriveRefusal) → IsRefused book request one
+        → IsRefused book request other → one ≡ other }
+    ensures apart { (book : List Series) (request : Request) (text : List ℕ) (why : DeriveRefusal) → IsAnswer book request text
+        → IsRefused book request why → ⊥ }
 {
     charts_are_one();
 }
 
 /// A request that isn't refused has an answer, over any book whose series have a step.
 pub fn requests_have_an_answer()
-    ensures { (book : List Series) (request : Request) → HaveSteps book → ((why : DeriveRefusal) × IsRefused book request why) ⊎ ((text : List ℕ) × IsAnswer book request text) }
+    ensures { (book : List Series) (request : Request) → HaveSteps book → ((why : DeriveRefusal) × IsRefused book request why)
+        ⊎ ((text : List ℕ) × IsAnswer book request text) }
 {
     kept_sums_are_the_samples();
 }

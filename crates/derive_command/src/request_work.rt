@@ -5,7 +5,8 @@ ghost use Rattle.run_ends.specs.declared.ending.End.TheVariants.{InputTooLong};
 ghost use Rattle.series_store.specs.Shown as shown;
 ghost use Rattle.store_commands.specs.Sides.{side_of};
 ghost use Rattle.derive_command.specs.Doing.{Goes, IsCause};
-ghost use Rattle.derive_command.specs.WorkLaws.{besides, cause_later, goes_further, goes_nowhere, goes_takes, no_less, same_series, same_total, stands_kept};
+ghost use Rattle.derive_command.specs.WorkLaws.{besides, cause_later, goes_further, goes_nowhere, goes_takes, no_less, same_series};
+ghost use Rattle.derive_command.specs.WorkLaws.{same_total, stands_kept};
 ghost use Rattle.derive_command.specs.Working.{Known, LineDoes, LineStopsSo, StandsSo};
 
 use crate::answering::answer_line;
@@ -39,7 +40,8 @@ impl<P: PageWorld> LineWork<Store<P>, End> for RequestWork {
 
     ghost does = { LineDoes };
 
-    ghost stops = { λ known it end work store before. LineStopsSo known it (side_of P.Streams store) before (P.sent (shown.pages store)) end };
+    ghost stops = { λ known it end work store before. LineStopsSo known it (side_of P.Streams store) before
+        (P.sent (shown.pages store)) end };
 
     ghost leaves = { λ known it from image sent. ⊤ };
 
@@ -71,7 +73,9 @@ impl<P: PageWorld> LineWork<Store<P>, End> for RequestWork {
 
     ghost fit_taken = { λ work old new at takes. (P.take_keeps (shown.pages old) (shown.pages new) takes.pages_are).fit };
 
-    ghost stands_taken = { λ known work old new takes sent stands. stands_kept (shown.view old) (shown.view new) (shown.catalog old) (shown.catalog new) known (same_series takes.catalog) (P.take_told (shown.pages old) (shown.pages new) takes.pages_are) (P.take_keeps (shown.pages old) (shown.pages new) takes.pages_are) stands };
+    ghost stands_taken = { λ known work old new takes sent stands. stands_kept (shown.view old) (shown.view new) (shown.catalog old)
+        (shown.catalog new) known (same_series takes.catalog) (P.take_told (shown.pages old) (shown.pages new) takes.pages_are)
+        (P.take_keeps (shown.pages old) (shown.pages new) takes.pages_are) stands };
 
     ghost lasting_on = { λ known it text behind did lasting. lasting };
 
@@ -79,7 +83,12 @@ impl<P: PageWorld> LineWork<Store<P>, End> for RequestWork {
 
     ghost take_passes = { λ old new takes. P.take_passes (shown.pages old) (shown.pages new) takes.pages_are };
 
-    ghost take_goes = { λ old new takes sent reads sends pieces. goes_takes _ _ (P.take_keeps (shown.pages old) (shown.pages new) takes.pages_are) (P.take_passes (shown.pages old) (shown.pages new) takes.pages_are) (P.take_told (shown.pages old) (shown.pages new) takes.pages_are) (P.take_was_told (shown.pages old) (shown.pages new) takes.pages_are) (P.take_goes_on (shown.pages old) (shown.pages new) takes.pages_are) (same_total takes.superblock) reads (no_less sends) };
+    ghost take_goes = { λ old new takes sent reads sends pieces. goes_takes _ _
+        (P.take_keeps (shown.pages old) (shown.pages new) takes.pages_are)
+        (P.take_passes (shown.pages old) (shown.pages new) takes.pages_are)
+        (P.take_told (shown.pages old) (shown.pages new) takes.pages_are)
+        (P.take_was_told (shown.pages old) (shown.pages new) takes.pages_are)
+        (P.take_goes_on (shown.pages old) (shown.pages new) takes.pages_are) (same_total takes.superblock) reads (no_less sends) };
 
     ghost now_rests = { λ known work from at fit stands lasting image left. tt };
 
@@ -87,7 +96,11 @@ impl<P: PageWorld> LineWork<Store<P>, End> for RequestWork {
 
     ghost goes_then = { λ old between new. goes_further _ _ _ };
 
-    ghost cause_later = { λ end old between new quiet goes cause. (cause_later _ _ _ (besides (P.beside_read_faults (shown.pages old)) (P.beside_send_faults (shown.pages old))) (besides (P.beside_read_faults (shown.pages between)) (P.beside_send_faults (shown.pages between))) quiet end goes cause.0, cause.1) };
+    ghost cause_later = { λ end old between new quiet goes cause. (
+      cause_later _ _ _ (besides (P.beside_read_faults (shown.pages old)) (P.beside_send_faults (shown.pages old)))
+          (besides (P.beside_read_faults (shown.pages between)) (P.beside_send_faults (shown.pages between))) quiet end goes cause.0,
+      cause.1,
+    ) };
 
     ghost counts_sent = { λ at. P.counts_sent (shown.pages at) };
 

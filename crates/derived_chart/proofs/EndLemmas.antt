@@ -1,5 +1,6 @@
 -- The ends of a range.
-use Rattle.std.proofs.Common.{inl, inr, ◌≡◌, ℕ, ℤ, Bool, true, false, ◌≤◌, ◌<◌, ◌+◌, ◌^◌, ◌≤ℤ◌, List, Option, None, Some, arith, refl, sym, ◌∙◌, subst}
+use Rattle.std.proofs.Common.{inl, inr, ◌≡◌, ℕ, ℤ, Bool, true, false, ◌≤◌, ◌<◌, ◌+◌, ◌^◌, ◌≤ℤ◌, List, Option, None, Some, arith, refl, sym}
+use Rattle.std.proofs.Common.{◌∙◌, subst}
 use Rattle.std.specs.Prelude.{unsigned_abs}
 use Rattle.std.proofs.lemmas.Bool.{cases_lt}
 use Rattle.std.proofs.lemmas.Int.{ints}
@@ -21,7 +22,8 @@ none_clear large list p q clear i v low high holds wanted = clear i v low high h
 inside : (a b v : ℤ) → unsigned_abs a ≤ 10 ^ 18 → unsigned_abs b ≤ 10 ^ 18 → a ≤ℤ v → v ≤ℤ b → unsigned_abs v ≤ 10 ^ 18
 inside a b v small large low high = grind (arith, ints)
 
-pub none_large : (large : Bool) (list : List (Option ℤ)) (p q : ℕ) (b : ℤ × ℤ) → large ≡ true → AreInLimits b → AreBetween list p q (Some b) → HasNone large list p q
+pub none_large : (large : Bool) (list : List (Option ℤ)) (p q : ℕ) (b : ℤ × ℤ) → large ≡ true → AreInLimits b → AreBetween list p q (Some b)
+    → HasNone large list p q
 none_large large list p q b is limits between i v low high holds wanted =
     let here = between i v low high holds in
     absurd (omega (arith, wanted is, inside b.0 b.1 v limits.0 limits.1 here.0 here.1))
@@ -30,7 +32,8 @@ none_large large list p q b is limits between i v low high holds wanted =
 same_value : (list : List (Option ℤ)) (i : ℕ) (v w : ℤ) → Holds list i v → Holds list i w → v ≡ w
 same_value list i v w one other = let both : Some (Some v) ≡ Some (Some w) = sym one ∙ other in cc
 
-found_here : (large : Bool) (list : List (Option ℤ)) (p q : ℕ) (b : ℤ × ℤ) (found : ℕ × ℤ) → q ≡ p + 1 → Holds list p b.0 → IsOneFound large p b (Some found) → IsFound large list p q found
+found_here : (large : Bool) (list : List (Option ℤ)) (p q : ℕ) (b : ℤ × ℤ) (found : ℕ × ℤ) → q ≡ p + 1 → Holds list p b.0
+    → IsOneFound large p b (Some found) → IsFound large list p q found
 found_here large list p q b found single holds is = record {
   low = omega (arith, is.0);
   high = omega (arith, is.0, single);
@@ -38,30 +41,43 @@ found_here large list p q b found single holds is = record {
   wanted = subst (IsWanted large) (sym is.1) is.2;
 }
 
-pub one_end : (side : Side) (large : Bool) (list : List (Option ℤ)) (p q : ℕ) (b : ℤ × ℤ) (o : Option (ℕ × ℤ)) → q ≡ p + 1 → Holds list p b.0 → IsOneFound large p b o → IsEndOf side large list p q o
+pub one_end : (side : Side) (large : Bool) (list : List (Option ℤ)) (p q : ℕ) (b : ℤ × ℤ) (o : Option (ℕ × ℤ)) → q ≡ p + 1
+    → Holds list p b.0 → IsOneFound large p b o → IsEndOf side large list p q o
 one_end side large list p q b None single holds is = λ i v low high there wanted.
     let P : ℕ → Type 0 = λ n. Holds list n v in
     let same = same_value list p b.0 v holds (subst P (omega (arith, low, high, single)) there) in
     is (subst (IsWanted large) (sym same) wanted)
-one_end First large list p q b (Some found) single holds is = (found_here large list p q b found single holds is, λ i v low high there wanted. absurd (omega (arith, low, high, is.0)))
-one_end Last large list p q b (Some found) single holds is = (found_here large list p q b found single holds is, λ i v low high there wanted. absurd (omega (arith, low, high, is.0, single)))
+one_end First large list p q b (Some found) single holds is = (
+  found_here large list p q b found single holds is,
+  λ i v low high there wanted. absurd (omega (arith, low, high, is.0)),
+)
+one_end Last large list p q b (Some found) single holds is = (
+  found_here large list p q b found single holds is,
+  λ i v low high there wanted. absurd (omega (arith, low, high, is.0, single)),
+)
 
 -- what is found in the nearer half is that of the whole range
-pub end_near : (side : Side) (large : Bool) (list : List (Option ℤ)) (p q : ℕ) (h : (ℕ × ℕ) × (ℕ × ℕ)) (found : ℕ × ℤ) → AreHalves side p q h → IsEndOf side large list h.0.0 h.0.1 (Some found) → IsEndOf side large list p q (Some found)
+pub end_near : (side : Side) (large : Bool) (list : List (Option ℤ)) (p q : ℕ) (h : (ℕ × ℕ) × (ℕ × ℕ)) (found : ℕ × ℤ)
+    → AreHalves side p q h → IsEndOf side large list h.0.0 h.0.1 (Some found) → IsEndOf side large list p q (Some found)
 end_near First large list p q h found halves is =
     let f = is.0 in
     let left = halves.0 in
-    let right = halves.4 in
-    (record { low = omega (arith, f.low, left); high = omega (arith, f.high, right); holds = f.holds; wanted = f.wanted }, λ i v low high holds wanted. is.1 i v (omega (arith, low, left)) high holds wanted)
+    let right = halves.4 in (
+      record { low = omega (arith, f.low, left); high = omega (arith, f.high, right); holds = f.holds; wanted = f.wanted },
+      λ i v low high holds wanted. is.1 i v (omega (arith, low, left)) high holds wanted,
+    )
 end_near Last large list p q h found halves is =
     let f = is.0 in
     let right = halves.2 in
     let middle = halves.1 in
-    let left = halves.3 in
-    (record { low = omega (arith, f.low, middle, left); high = omega (arith, f.high, right); holds = f.holds; wanted = f.wanted }, λ i v low high holds wanted. is.1 i v low (omega (arith, high, right)) holds wanted)
+    let left = halves.3 in (
+      record { low = omega (arith, f.low, middle, left); high = omega (arith, f.high, right); holds = f.holds; wanted = f.wanted },
+      λ i v low high holds wanted. is.1 i v low (omega (arith, high, right)) holds wanted,
+    )
 
 -- and where that has nothing, what is found in the other one
-pub end_far : (side : Side) (large : Bool) (list : List (Option ℤ)) (p q : ℕ) (h : (ℕ × ℕ) × (ℕ × ℕ)) (o : Option (ℕ × ℤ)) → AreHalves side p q h → HasNone large list h.0.0 h.0.1 → IsEndOf side large list h.1.0 h.1.1 o → IsEndOf side large list p q o
+pub end_far : (side : Side) (large : Bool) (list : List (Option ℤ)) (p q : ℕ) (h : (ℕ × ℕ) × (ℕ × ℕ)) (o : Option (ℕ × ℤ))
+    → AreHalves side p q h → HasNone large list h.0.0 h.0.1 → IsEndOf side large list h.1.0 h.1.1 o → IsEndOf side large list p q o
 end_far First large list p q h None halves none is =
     let left = halves.0 in
     let middle = halves.1 in

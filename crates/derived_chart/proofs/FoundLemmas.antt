@@ -18,7 +18,8 @@ passed_value v small = sym (to_z-of_z w64 v (fits_signed_from_abs w64 v (omega (
 pub passed_low : (low result : ℤ) → IsValue low → to_z w64 (of_z w64 low) ≤ℤ result → low ≤ℤ result
 passed_low low result small is = let P : ℤ → Type 0 = λ z. z ≤ℤ result in subst P (sym (passed_value low small)) is
 
-pub passed_same : (low value result : ℤ) → IsValue low → IsValue value → (to_z w64 (of_z w64 low) ≤ℤ to_z w64 (of_z w64 value) → result ≡ to_z w64 (of_z w64 value)) → low ≤ℤ value → result ≡ value
+pub passed_same : (low value result : ℤ) → IsValue low → IsValue value
+    → (to_z w64 (of_z w64 low) ≤ℤ to_z w64 (of_z w64 value) → result ≡ to_z w64 (of_z w64 value)) → low ≤ℤ value → result ≡ value
 passed_same low value result small also is =
     let P : ℤ → Type 0 = λ z. z ≤ℤ to_z w64 (of_z w64 value) → result ≡ to_z w64 (of_z w64 value) in
     let Q : ℤ → Type 0 = λ z. low ≤ℤ z → result ≡ z in
@@ -27,9 +28,16 @@ passed_same low value result small also is =
 abbrev row_with : ℕ → ℤ → ℤ → ℤ → ℤ → Row
 row_with column first least greatest last = record { column = column; first = first; least = least; greatest = greatest; last = last }
 
-pub passed_row : (P : Row → Type 0) (column : ℕ) (first least greatest last : ℤ) → IsValue first → IsValue least → IsValue greatest → IsValue last
+pub passed_row : (P : Row → Type 0) (column : ℕ) (first least greatest last : ℤ) → IsValue first → IsValue least → IsValue greatest
+    → IsValue last
     → P (record { column = column; first = first; least = least; greatest = greatest; last = last })
-    → P (record { column = column; first = to_z w64 (of_z w64 first); least = to_z w64 (of_z w64 least); greatest = to_z w64 (of_z w64 greatest); last = to_z w64 (of_z w64 last) })
+    → P (record {
+      column = column;
+      first = to_z w64 (of_z w64 first);
+      least = to_z w64 (of_z w64 least);
+      greatest = to_z w64 (of_z w64 greatest);
+      last = to_z w64 (of_z w64 last);
+    })
 passed_row P column first least greatest last f l g k is =
     let F : ℤ → Type 0 = λ z. P (row_with column z (to_z w64 (of_z w64 least)) (to_z w64 (of_z w64 greatest)) (to_z w64 (of_z w64 last))) in
     let L : ℤ → Type 0 = λ z. P (row_with column first z (to_z w64 (of_z w64 greatest)) (to_z w64 (of_z w64 last))) in
@@ -37,13 +45,19 @@ passed_row P column first least greatest last f l g k is =
     let K : ℤ → Type 0 = λ z. P (row_with column first least greatest z) in
     subst F (passed_value first f) (subst L (passed_value least l) (subst G (passed_value greatest g) (subst K (passed_value last k) is)))
 
-pub row_found : (sums : List (Option ℤ)) (p q column : ℕ) (first : ℕ × ℤ) (last : Option (ℕ × ℤ)) (least greatest : Option ℤ) (f l h g k : ℤ)
-    → (IsValue first.1 → f ≡ first.1) → IfSome least (λ v. IsValue v → l ≡ v) → IfSome greatest (λ v. IsValue v → h ≡ v) → (l ≤ℤ h → g ≡ h) → IfSome last (λ x. IsValue x.1 → k ≡ x.1)
-    → AreValues sums p q → IsFirstStored sums p q (Some first) → IsLastStored sums p q last → IsBestOf Least sums p q least → IsBestOf Greatest sums p q greatest
+pub row_found : (sums : List (Option ℤ)) (p q column : ℕ) (first : ℕ
+    × ℤ) (last : Option (ℕ × ℤ)) (least greatest : Option ℤ) (f l h g k : ℤ)
+    → (IsValue first.1 → f ≡ first.1) → IfSome least (λ v. IsValue v → l ≡ v) → IfSome greatest (λ v. IsValue v → h ≡ v) → (l ≤ℤ h → g ≡ h)
+    → IfSome last (λ x. IsValue x.1 → k ≡ x.1)
+    → AreValues sums p q → IsFirstStored sums p q (Some first) → IsLastStored sums p q last → IsBestOf Least sums p q least
+    → IsBestOf Greatest sums p q greatest
     → IsRowIn sums p q (record { column = column; first = f; least = l; greatest = g; last = k })
-row_found sums p q column first None least greatest f l h g k first_is least_is greatest_is order last_is small one clear low high = absurd (clear first.0 first.1 one.0 one.1 one.2)
-row_found sums p q column first (Some x) None greatest f l h g k first_is least_is greatest_is order last_is small one two clear high = absurd (clear first.0 first.1 one.0 one.1 one.2)
-row_found sums p q column first (Some x) (Some m) None f l h g k first_is least_is greatest_is order last_is small one two low clear = absurd (clear first.0 first.1 one.0 one.1 one.2)
+row_found sums p q column first None least greatest f l h g k first_is least_is greatest_is order last_is small one clear low high = absurd
+    (clear first.0 first.1 one.0 one.1 one.2)
+row_found sums p q column first (Some x) None greatest f l h g k first_is least_is greatest_is order last_is small one two clear
+    high = absurd (clear first.0 first.1 one.0 one.1 one.2)
+row_found sums p q column first (Some x) (Some m) None f l h g k first_is least_is greatest_is order last_is small one two low
+    clear = absurd (clear first.0 first.1 one.0 one.1 one.2)
 row_found sums p q column first (Some x) (Some m) (Some n) f l h g k first_is least_is greatest_is order last_is small one two low high =
     let at_low : IsStored sums p q m = low.0 in
     let at_high : IsStored sums p q n = high.0 in

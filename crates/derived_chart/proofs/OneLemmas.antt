@@ -23,7 +23,8 @@ rise_of samples rise = λ i j d less short.
     subst Q high (subst P low (rise i j (point d) less (omega (arith, short, length-map samples point))))
 
 -- lists in order of time with the same samples are one
-one_list : (xs ys : List Sample) → AllPairs IsEarlier xs → AllPairs IsEarlier ys → ((s : Sample) → Contains xs s → Contains ys s) → ((s : Sample) → Contains ys s → Contains xs s) → xs ≡ ys
+one_list : (xs ys : List Sample) → AllPairs IsEarlier xs → AllPairs IsEarlier ys → ((s : Sample) → Contains xs s → Contains ys s)
+    → ((s : Sample) → Contains ys s → Contains xs s) → xs ≡ ys
 one_list [] [] rise also to back = refl
 one_list [] (y ∷ ys) rise also to back = absurd (omega (arith, (back y (at_head y ys)).1))
 one_list (x ∷ xs) [] rise also to back = absurd (omega (arith, (to x (at_head x xs)).1))
@@ -32,20 +33,36 @@ one_list (x ∷ xs) (y ∷ ys) rise also to back =
       | inl first ↦ sym first
       | inr later ↦ elim (head_or_rest x xs y (back y (at_head y ys))) [
         | inl first ↦ first
-        | inr behind ↦ absurd (omega (arith, ints, All-contains (IsEarlier y) ys x (heads_rest y ys also) later, All-contains (IsEarlier x) xs y (heads_rest x xs rise) behind))
+        | inr behind ↦ absurd (omega (
+          arith,
+          ints,
+          All-contains (IsEarlier y) ys x (heads_rest y ys also) later,
+          All-contains (IsEarlier x) xs y (heads_rest x xs rise) behind,
+        ))
       ]
     ] in
     let there : (s : Sample) → Contains xs s → Contains ys s = λ s is. elim (head_or_rest y ys s (to s (in_rest x xs s is))) [
-      | inl first ↦ absurd (omega (arith, ints, All-contains (IsEarlier x) xs s (heads_rest x xs rise) is, ap (λ (t : Sample). t.time) (same ∙ first)))
+      | inl first ↦ absurd (omega (
+        arith,
+        ints,
+        All-contains (IsEarlier x) xs s (heads_rest x xs rise) is,
+        ap (λ (t : Sample). t.time) (same ∙ first),
+      ))
       | inr later ↦ later
     ] in
     let here : (s : Sample) → Contains ys s → Contains xs s = λ s is. elim (head_or_rest x xs s (back s (in_rest y ys s is))) [
-      | inl first ↦ absurd (omega (arith, ints, All-contains (IsEarlier y) ys s (heads_rest y ys also) is, ap (λ (t : Sample). t.time) (sym same ∙ first)))
+      | inl first ↦ absurd (omega (
+        arith,
+        ints,
+        All-contains (IsEarlier y) ys s (heads_rest y ys also) is,
+        ap (λ (t : Sample). t.time) (sym same ∙ first),
+      ))
       | inr later ↦ later
     ] in
     ap (λ s. s ∷ xs) same ∙ ap (λ list. y ∷ list) (one_list xs ys (rest_rise x xs rise) (rest_rise y ys also) there here)
 
-pub samples_one : (g : Grid) (a b : ℤ) (x y : Axis) (xs ys : List (Option ℤ)) (one other : List Sample) → AreSumSamples g a b x y xs ys one → AreSumSamples g a b x y xs ys other → one ≡ other
+pub samples_one : (g : Grid) (a b : ℤ) (x y : Axis) (xs ys : List (Option ℤ)) (one other : List Sample) → AreSumSamples g a b x y xs ys one
+    → AreSumSamples g a b x y xs ys other → one ≡ other
 samples_one g a b x y xs ys one other first second =
     one_list one other (rise_of one first.order.rising) (rise_of other second.order.rising)
     (λ s there. (second.each s.time s.value).1 ((first.each s.time s.value).0 there))

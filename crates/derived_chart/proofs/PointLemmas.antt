@@ -1,5 +1,6 @@
 -- The samples of a sum.
-use Rattle.std.proofs.Common.{◌≡◌, ℕ, zero, suc, ℤ, pos, negsuc, ◌+◌, ◌*◌, ◌/◌, ◌<◌, ◌≤◌, ◌+ℤ◌, ◌*ℤ◌, ◌<ℤ◌, ◌⊎◌, inl, inr, Bool, true, false, List, [], ◌∷◌, Option, None, Some, arith, refl, sym, ◌∙◌, ap, subst}
+use Rattle.std.proofs.Common.{◌≡◌, ℕ, zero, suc, ℤ, pos, negsuc, ◌+◌, ◌*◌, ◌/◌, ◌<◌, ◌≤◌, ◌+ℤ◌, ◌*ℤ◌, ◌<ℤ◌, ◌⊎◌, inl, inr, Bool, true}
+use Rattle.std.proofs.Common.{false, List, [], ◌∷◌, Option, None, Some, arith, refl, sym, ◌∙◌, ap, subst}
 use Rattle.std.proofs.Math.Nat.{mul-le-mul_right, mul-div_cancel}
 use Rattle.std.proofs.lemmas.Bool.{and_parts, and_from}
 use Rattle.std.proofs.lemmas.Bool.Decides.{nat_tests}
@@ -46,7 +47,8 @@ kept_from g axis n xs = filter_map (kept_at g axis) (enumerate_from n xs)
 
 -- what holds of each stored slot of the window, the first of the list being slot n
 all_from : (Q : Sample → Type 0) (g : Grid) (axis : Axis) (n : ℕ) (xs : List (Option ℤ))
-    → ((i : ℕ) (v : ℤ) → Holds xs i v → in_window g (slot_time axis (n + i)) ≡ true → Q (sample_of axis (n + i) v)) → All Q (kept_from g axis n xs)
+    → ((i : ℕ) (v : ℤ) → Holds xs i v → in_window g (slot_time axis (n + i)) ≡ true → Q (sample_of axis (n + i) v))
+    → All Q (kept_from g axis n xs)
 all_from Q g axis n [] each = All-nil Q
 all_from Q g axis n (None ∷ xs) each =
     all_from Q g axis (n + 1) xs
@@ -75,7 +77,8 @@ same_value : (u v : ℤ) → Some (Some u) ≡ Some (Some v) → u ≡ v
 same_value u v h = cc
 
 -- a stored slot of the window is among them
-among_from : (g : Grid) (axis : Axis) (n : ℕ) (xs : List (Option ℤ)) (i : ℕ) (v : ℤ) → Holds xs i v → in_window g (slot_time axis (n + i)) ≡ true → Contains (kept_from g axis n xs) (sample_of axis (n + i) v)
+among_from : (g : Grid) (axis : Axis) (n : ℕ) (xs : List (Option ℤ)) (i : ℕ) (v : ℤ) → Holds xs i v
+    → in_window g (slot_time axis (n + i)) ≡ true → Contains (kept_from g axis n xs) (sample_of axis (n + i) v)
 among_from g axis n [] i v holds on = absurd (cc)
 among_from g axis n (None ∷ xs) zero v holds on = absurd (cc)
 among_from g axis n (None ∷ xs) (suc i) v holds on =
@@ -85,7 +88,8 @@ among_from g axis n (None ∷ xs) (suc i) v holds on =
 among_from g axis n (Some u ∷ xs) zero v holds on =
     let e : n + 0 ≡ n = omega arith in
     let on_here : in_window g (slot_time axis n) ≡ true = ap (λ m. in_window g (slot_time axis m)) (sym e) ∙ on in
-    let P : Bool → Type 0 = λ b. Contains (cons_option (if b then Some (sample_of axis n u) else None) (kept_from g axis (n + 1) xs)) (sample_of axis n u) in
+    let P : Bool → Type 0 = λ b. Contains (cons_option (if b then Some (sample_of axis n u) else None) (kept_from g axis (n + 1) xs))
+    (sample_of axis n u) in
     let here : Contains (sample_of axis n u ∷ kept_from g axis (n + 1) xs) (sample_of axis n u) = (0, omega arith, refl) in
     let Q : ℤ → Type 0 = λ z. Contains (kept_from g axis n (Some u ∷ xs)) (sample_of axis n z) in
     let R : ℕ → Type 0 = λ m. Contains (kept_from g axis n (Some u ∷ xs)) (sample_of axis m v) in
@@ -93,10 +97,13 @@ among_from g axis n (Some u ∷ xs) zero v holds on =
 among_from g axis n (Some u ∷ xs) (suc i) v holds on =
     let e : (n + 1) + i ≡ n + suc i = omega arith in
     let R : ℕ → Type 0 = λ m. in_window g (slot_time axis m) ≡ true → Contains (kept_from g axis (n + 1) xs) (sample_of axis m v) in
-    let rest : Contains (kept_from g axis (n + 1) xs) (sample_of axis (n + suc i) v) = subst R e (among_from g axis (n + 1) xs i v holds) on in
-    let P : Bool → Type 0 = λ b. Contains (cons_option (if b then Some (sample_of axis n u) else None) (kept_from g axis (n + 1) xs)) (sample_of axis (n + suc i) v) in
+    let rest : Contains (kept_from g axis (n + 1) xs) (sample_of axis (n + suc i) v) = subst R e
+    (among_from g axis (n + 1) xs i v holds) on in
+    let P : Bool → Type 0 = λ b. Contains (cons_option (if b then Some (sample_of axis n u) else None) (kept_from g axis (n + 1) xs))
+    (sample_of axis (n + suc i) v) in
     elim (bool_cases (in_window g (slot_time axis n))) [
-      | inl set ↦ subst P (sym set) (Contains-append_right (sample_of axis n u ∷ []) (kept_from g axis (n + 1) xs) (sample_of axis (n + suc i) v) rest)
+      | inl set ↦ subst P (sym set) (Contains-append_right (sample_of axis n u ∷ []) (kept_from g axis (n + 1) xs)
+          (sample_of axis (n + suc i) v) rest)
       | inr unset ↦ subst P (sym unset) rest
     ]
 
@@ -115,7 +122,8 @@ rise_from g axis n (Some u ∷ xs) step =
     let rest : AllPairs IsEarlier (kept_from g axis (n + 1) xs) = rise_from g axis (n + 1) xs step in
     let later : All (IsEarlier (sample_of axis n u)) (kept_from g axis (n + 1) xs) =
     all_from (IsEarlier (sample_of axis n u)) g axis (n + 1) xs (λ i v holds inside. time_before axis n ((n + 1) + i) step (omega arith)) in
-    let P : Bool → Type 0 = λ b. AllPairs IsEarlier (cons_option (if b then Some (sample_of axis n u) else None) (kept_from g axis (n + 1) xs)) in
+    let P : Bool → Type 0 = λ b. AllPairs IsEarlier
+    (cons_option (if b then Some (sample_of axis n u) else None) (kept_from g axis (n + 1) xs)) in
     elim (bool_cases (in_window g (slot_time axis n))) [
       | inl set ↦ subst P (sym set) (AllPairs-cons IsEarlier (sample_of axis n u) (kept_from g axis (n + 1) xs) later rest)
       | inr unset ↦ subst P (sym unset) rest
@@ -143,7 +151,8 @@ kept_slots g axis xs =
 pub kept_slot : (g : Grid) (axis : Axis) (xs : List (Option ℤ)) (s : Sample) → Contains (kept g axis xs) s → IsKept g axis xs s
 kept_slot g axis xs s there = All-contains (IsKept g axis xs) (kept g axis xs) s (kept_slots g axis xs) there
 
-pub slot_kept : (g : Grid) (axis : Axis) (xs : List (Option ℤ)) (i : ℕ) (v : ℤ) → Holds xs i v → InWindow g (slot_time axis i) → Contains (kept g axis xs) (record { time = slot_time axis i; value = v })
+pub slot_kept : (g : Grid) (axis : Axis) (xs : List (Option ℤ)) (i : ℕ) (v : ℤ) → Holds xs i v → InWindow g (slot_time axis i)
+    → Contains (kept g axis xs) (record { time = slot_time axis i; value = v })
 slot_kept g axis xs i v holds shown =
     let e : 0 + i ≡ i = omega arith in
     let P : ℕ → Type 0 = λ m. in_window g (slot_time axis m) ≡ true → Contains (kept g axis xs) (sample_of axis m v) in
@@ -152,7 +161,8 @@ slot_kept g axis xs i v holds shown =
 pairs_map : (samples : List Sample) → AllPairs IsEarlier samples → AllPairs (λ p q. p.0 <ℤ q.0) (sample_points samples)
 pairs_map [] rise = λ i j d less short. absurd (omega arith)
 pairs_map (s ∷ ss) rise =
-    AllPairs-cons (λ p q. p.0 <ℤ q.0) (s.time, s.value) (sample_points ss) (All-map (λ q. s.time <ℤ q.0) (λ t. (t.time, t.value)) ss (λ i d short. rise 0 (suc i) d (omega arith) (omega arith)))
+    AllPairs-cons (λ p q. p.0 <ℤ q.0) (s.time, s.value) (sample_points ss)
+    (All-map (λ q. s.time <ℤ q.0) (λ t. (t.time, t.value)) ss (λ i d short. rise 0 (suc i) d (omega arith) (omega arith)))
     (pairs_map ss (λ i j d less short. rise (suc i) (suc j) d (omega arith) (omega arith)))
 
 pub kept_in_order : (g : Grid) (axis : Axis) (xs : List (Option ℤ)) → 0 < axis.step → AreInOrder g (sample_points (kept g axis xs))
@@ -192,7 +202,8 @@ beside_time : (x y : Axis) (d : ℤ) (i j : ℕ) → IsShift x y d → pos j ≡
 beside_time x y d i j shift here =
     let same : j * y.step ≡ j * x.step = ap (λ n. j * n) shift.step in omega (arith, ints, scaled x.step i j d here, same, shift.start)
 
-sums_here : (g : Grid) (x y : Axis) (sum : Sum) (xs ys : List (Option ℤ)) (t v : ℤ) → 0 < x.step → IsShift x y sum.shift → Contains (kept g x (sums_of sum xs ys)) (record { time = t; value = v }) → InWindow g t × IsSumAt sum.a sum.b x y xs ys t v
+sums_here : (g : Grid) (x y : Axis) (sum : Sum) (xs ys : List (Option ℤ)) (t v : ℤ) → 0 < x.step → IsShift x y sum.shift
+    → Contains (kept g x (sums_of sum xs ys)) (record { time = t; value = v }) → InWindow g t × IsSumAt sum.a sum.b x y xs ys t v
 sums_here g x y sum xs ys t v step shift there =
     let is = kept_slot g x (sums_of sum xs ys) (record { time = t; value = v }) there in
     let adds : Adds sum xs ys is.slot v = ((sums_are sum xs ys).each is.slot v).0 is.holds in
@@ -202,12 +213,18 @@ sums_here g x y sum xs ys t v step shift there =
         one = adds.x;
         other = adds.y;
         first = record { slot = is.slot; time = is.time; holds = adds.first };
-        second = record { slot = adds.second.slot; time = beside_time x y sum.shift is.slot adds.second.slot shift adds.second.here ∙ is.time; holds = adds.second.holds };
+        second = record {
+          slot = adds.second.slot;
+          time = beside_time x y sum.shift is.slot adds.second.slot shift adds.second.here
+              ∙ is.time;
+          holds = adds.second.holds;
+        };
         is = adds.is;
       },
     )
 
-here_sums : (g : Grid) (x y : Axis) (sum : Sum) (xs ys : List (Option ℤ)) (t v : ℤ) → 0 < x.step → IsShift x y sum.shift → InWindow g t → IsSumAt sum.a sum.b x y xs ys t v → Contains (kept g x (sums_of sum xs ys)) (record { time = t; value = v })
+here_sums : (g : Grid) (x y : Axis) (sum : Sum) (xs ys : List (Option ℤ)) (t v : ℤ) → 0 < x.step → IsShift x y sum.shift → InWindow g t
+    → IsSumAt sum.a sum.b x y xs ys t v → Contains (kept g x (sums_of sum xs ys)) (record { time = t; value = v })
 here_sums g x y sum xs ys t v step shift shown is =
     let i : ℕ = is.first.slot in
     let j : ℕ = is.second.slot in
@@ -223,9 +240,11 @@ here_sums g x y sum xs ys t v step shift shown is =
     } in
     let P : ℤ → Type 0 = λ z. InWindow g z in
     let Q : ℤ → Type 0 = λ z. Contains (kept g x (sums_of sum xs ys)) (record { time = z; value = v }) in
-    subst Q is.first.time (slot_kept g x (sums_of sum xs ys) i v (((sums_are sum xs ys).each i v).1 adds) (subst P (sym is.first.time) shown))
+    subst Q is.first.time (slot_kept g x (sums_of sum xs ys) i v (((sums_are sum xs ys).each i v).1 adds)
+    (subst P (sym is.first.time) shown))
 
-pub samples_are : (g : Grid) (x y : Axis) (sum : Sum) (xs ys : List (Option ℤ)) → 0 < x.step → IsShift x y sum.shift → AreSumSamples g sum.a sum.b x y xs ys (kept g x (sums_of sum xs ys))
+pub samples_are : (g : Grid) (x y : Axis) (sum : Sum) (xs ys : List (Option ℤ)) → 0 < x.step → IsShift x y sum.shift
+    → AreSumSamples g sum.a sum.b x y xs ys (kept g x (sums_of sum xs ys))
 samples_are g x y sum xs ys step shift = record {
   order = kept_in_order g x (sums_of sum xs ys) step;
   each = λ t v. (sums_here g x y sum xs ys t v step shift, λ both. here_sums g x y sum xs ys t v step shift both.0 both.1);

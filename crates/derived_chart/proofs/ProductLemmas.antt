@@ -20,10 +20,15 @@ down (suc n) x y low = omega (arith, ints, pred_ℤ-*ℤ (negsuc n) x, pred_ℤ-
 
 -- a product of a factor and a value
 pub product_small : (a x : ℤ) → unsigned_abs a ≤ 10 ^ 9 → unsigned_abs x ≤ 10 ^ 18 → unsigned_abs (a *ℤ x) ≤ 10 ^ 27
-product_small a x factor value = omega (arith, unsigned_abs-mul a x, mul-le (unsigned_abs a) (unsigned_abs x) (10 ^ 9) (10 ^ 18) factor value)
+product_small a x factor value = omega (
+  arith,
+  unsigned_abs-mul a x,
+  mul-le (unsigned_abs a) (unsigned_abs x) (10 ^ 9) (10 ^ 18) factor value,
+)
 
 -- the products of a factor that isn't negative
-pub rising : (a : ℤ) (s : Span) (lo hi : ℤ) → pos 0 ≤ℤ a → lo ≡ a *ℤ s.min → hi ≡ a *ℤ s.max → unsigned_abs lo ≤ 10 ^ 27 → unsigned_abs hi ≤ 10 ^ 27 → AreProducts a s (lo, hi)
+pub rising : (a : ℤ) (s : Span) (lo hi : ℤ) → pos 0 ≤ℤ a → lo ≡ a *ℤ s.min → hi ≡ a *ℤ s.max → unsigned_abs lo ≤ 10 ^ 27
+    → unsigned_abs hi ≤ 10 ^ 27 → AreProducts a s (lo, hi)
 rising (pos n) s lo hi sign low high small large = record {
   within = λ x above below. (omega (arith, ints, low, up n s.min x above), omega (arith, ints, high, up n x s.max below));
   small = (small, large);
@@ -32,7 +37,8 @@ rising (pos n) s lo hi sign low high small large = record {
 rising (negsuc n) s lo hi sign low high small large = absurd (omega (arith, ints, sign))
 
 -- and of one that is
-pub falling : (a : ℤ) (s : Span) (lo hi : ℤ) → a <ℤ pos 0 → lo ≡ a *ℤ s.max → hi ≡ a *ℤ s.min → unsigned_abs lo ≤ 10 ^ 27 → unsigned_abs hi ≤ 10 ^ 27 → AreProducts a s (lo, hi)
+pub falling : (a : ℤ) (s : Span) (lo hi : ℤ) → a <ℤ pos 0 → lo ≡ a *ℤ s.max → hi ≡ a *ℤ s.min → unsigned_abs lo ≤ 10 ^ 27
+    → unsigned_abs hi ≤ 10 ^ 27 → AreProducts a s (lo, hi)
 falling (pos n) s lo hi sign low high small large = absurd (omega (arith, ints, sign))
 falling (negsuc n) s lo hi sign low high small large = record {
   within = λ x above below. (omega (arith, ints, low, down n x s.max below), omega (arith, ints, high, down n s.min x above));
@@ -41,7 +47,8 @@ falling (negsuc n) s lo hi sign low high small large = record {
 }
 
 -- a number of so many bits is what it is passed as
-pub passed : (a x r : ℤ) → unsigned_abs a ≤ 10 ^ 9 → unsigned_abs x ≤ 10 ^ 18 → r ≡ to_z w64 (of_z w64 a) *ℤ to_z w64 (of_z w64 x) → r ≡ a *ℤ x
+pub passed : (a x r : ℤ) → unsigned_abs a ≤ 10 ^ 9 → unsigned_abs x ≤ 10 ^ 18 → r ≡ to_z w64 (of_z w64 a) *ℤ to_z w64 (of_z w64 x)
+    → r ≡ a *ℤ x
 passed a x r factor value is =
     let fits_a = fits_signed_from_abs w64 a (omega (arith, factor)) in
     let fits_x = fits_signed_from_abs w64 x (omega (arith, value)) in
@@ -51,7 +58,8 @@ passed a x r factor value is =
 pub products_as : (a : ℤ) (s : Span) (b : ℤ × ℤ) → unsigned_abs a ≤ 10 ^ 9 → AreProducts (to_z w64 (of_z w64 a)) s b → AreProducts a s b
 products_as a s b factor = subst (λ z. AreProducts z s b) (to_z-of_z w64 a (fits_signed_from_abs w64 a (omega (arith, factor))))
 
-pub given_back : (a : ℤ) (s : Span) (lo hi : ℤ) → unsigned_abs lo ≤ 10 ^ 27 → unsigned_abs hi ≤ 10 ^ 27 → AreProducts a s (lo, hi) → AreProducts a s (to_z w128 (of_z w128 lo), to_z w128 (of_z w128 hi))
+pub given_back : (a : ℤ) (s : Span) (lo hi : ℤ) → unsigned_abs lo ≤ 10 ^ 27 → unsigned_abs hi ≤ 10 ^ 27 → AreProducts a s (lo, hi)
+    → AreProducts a s (to_z w128 (of_z w128 lo), to_z w128 (of_z w128 hi))
 given_back a s lo hi small large are =
     let one = to_z-of_z w128 lo (fits_signed_from_abs w128 lo (omega (arith, small))) in
     let other = to_z-of_z w128 hi (fits_signed_from_abs w128 hi (omega (arith, large))) in
@@ -67,7 +75,8 @@ pub fits_wide : (z u : ℤ) → unsigned_abs z < 2 ^ 127 → u ≡ z → FitsSig
 fits_wide z u small is = subst (FitsSigned w128) (sym is) (fits_signed_from_abs w128 z (omega (arith, small)))
 
 -- the product that the code computes with them
-pub wide_product : (a x u v : ℤ) → unsigned_abs a ≤ 10 ^ 9 → unsigned_abs x ≤ 10 ^ 18 → u ≡ to_z w64 (of_z w64 a) → v ≡ to_z w64 (of_z w64 x)
+pub wide_product : (a x u v : ℤ) → unsigned_abs a ≤ 10 ^ 9 → unsigned_abs x ≤ 10 ^ 18 → u ≡ to_z w64 (of_z w64 a)
+    → v ≡ to_z w64 (of_z w64 x)
     → (to_z w128 (of_z w128 u) *ℤ to_z w128 (of_z w128 v)) ≡ (a *ℤ x)
 wide_product a x u v factor value first second =
     let one : u ≡ a = first ∙ to_z-of_z w64 a (fits_signed_from_abs w64 a (omega (arith, factor))) in

@@ -1,11 +1,13 @@
 -- The rows of sums are those of the samples.
-use Rattle.std.proofs.Common.{◌≡◌, ℕ, zero, suc, ℤ, ◌+◌, ◌-◌, ◌<◌, ◌≤◌, pos, ◌*◌, ◌+ℤ◌, ◌≤ℤ◌, ◌<ℤ◌, ◌⊎◌, inl, inr, Bool, true, false, cond, List, [], ◌∷◌, ◌++◌, map, length, Option, None, Some, arith, refl, sym, ◌∙◌, ap, subst}
+use Rattle.std.proofs.Common.{◌≡◌, ℕ, zero, suc, ℤ, ◌+◌, ◌-◌, ◌<◌, ◌≤◌, pos, ◌*◌, ◌+ℤ◌, ◌≤ℤ◌, ◌<ℤ◌, ◌⊎◌, inl, inr, Bool, true, false, cond}
+use Rattle.std.proofs.Common.{List, [], ◌∷◌, ◌++◌, map, length, Option, None, Some, arith, refl, sym, ◌∙◌, ap, subst}
 use Rattle.std.proofs.lemmas.Bool.Decides.{nat_tests}
 use Rattle.std.proofs.lemmas.Bool.{cases_lt}
 use Rattle.std.proofs.lemmas.Int.{ints, by_lt_z}
 use Rattle.std.proofs.Math.Nat.{mul-le-mul_right}
 use Rattle.std.proofs.lemmas.List.{map-append}
-use Rattle.std.proofs.lemmas.List.Elements.{All-nil, All-cons, All-push, All-weaker, All-map, All-contains, Contains-append_left, Contains-append_right, Contains-push}
+use Rattle.std.proofs.lemmas.List.Elements.{All-nil, All-cons, All-push, All-weaker, All-map, All-contains, Contains-append_left}
+use Rattle.std.proofs.lemmas.List.Elements.{Contains-append_right, Contains-push}
 use Rattle.std.proofs.lemmas.List.Kept.{AllPairs-filter}
 use Rattle.std.proofs.lemmas.List.Quantifiers.{all_pairs_push}
 use Rattle.std.proofs.lemmas.Option.{slice_get_within}
@@ -27,7 +29,8 @@ use Rattle.std.specs.Prelude.{Result, Ok, Err, IfErr, IsErrAnd}
 use Rattle.om3_coeff.specs.declared.errors.NodeError.{NodeError}
 use Rattle.derived_chart.specs.declared.derived_error.DerivedError.{DerivedError}
 use Rattle.derived_chart.specs.declared.derived_error.DerivedError.TheVariants.{TooLarge, Node, NoMemory}
-use Rattle.derived_chart.specs.Rows.{IsAnswer, IsCause, IsRowCause, IsFirstTooLarge, IsOrdered, IsRowIn, AreColumn, IsRowOf, AreShown, AreRowsBelow, AreColumnValues}
+use Rattle.derived_chart.specs.Rows.{IsAnswer, IsCause, IsRowCause, IsFirstTooLarge, IsOrdered, IsRowIn, AreColumn, IsRowOf, AreShown}
+use Rattle.derived_chart.specs.Rows.{AreRowsBelow, AreColumnValues}
 use Rattle.derived_chart.specs.Searches.{IsFirstLarge}
 use Rattle.derived_chart.proofs.PointLemmas.{IsEarlier, IsKept, kept_rise, kept_slots, kept_slot, slot_kept}
 
@@ -47,7 +50,8 @@ column_values g c (s ∷ ss) =
     let rest : values_in c (spots g (sample_points ss)) ≡ values (of_column g c ss) = column_values g c ss in
     let spot : Point = record { x = column g s.time; y = s.value } in
     elim (column g s.time == c) as (λ b.
-    map (λ p. p.y) (cond b (spot ∷ filter (λ p. p.x == c) (spots g (sample_points ss))) (filter (λ p. p.x == c) (spots g (sample_points ss)))) ≡ values (cond b (s ∷ of_column g c ss) (of_column g c ss))) [
+    map (λ p. p.y) (cond b (spot ∷ filter (λ p. p.x == c) (spots g (sample_points ss)))
+    (filter (λ p. p.x == c) (spots g (sample_points ss)))) ≡ values (cond b (s ∷ of_column g c ss) (of_column g c ss))) [
       | true ↦ ap (λ zs. s.value ∷ zs) rest
       | false ↦ rest
     ]
@@ -112,7 +116,8 @@ heads_rest t ts rise = λ i d short. rise 0 (suc i) d (omega arith) (omega arith
 pub rest_rise : (t : Sample) (ts : List Sample) → AllPairs IsEarlier (t ∷ ts) → AllPairs IsEarlier ts
 rest_rise t ts rise = λ i j d less short. rise (suc i) (suc j) d (omega arith) (omega arith)
 
-first_of : (samples : List Sample) (s : Sample) → AllPairs IsEarlier samples → Contains samples s → ((t : Sample) → Contains samples t → s.time ≤ℤ t.time) → slice_get (values samples) 0 ≡ Some s.value
+first_of : (samples : List Sample) (s : Sample) → AllPairs IsEarlier samples → Contains samples s
+    → ((t : Sample) → Contains samples t → s.time ≤ℤ t.time) → slice_get (values samples) 0 ≡ Some s.value
 first_of [] s rise there least = absurd (omega (arith, there.1))
 first_of (t ∷ ts) s rise there least = elim (head_or_rest t ts s there) [
   | inl same ↦ ap (λ z. Some z.value) same
@@ -126,7 +131,8 @@ last_more u v (y ∷ ys) h =
     let inner : length ys ≡ length (y ∷ ys) - 1 = omega arith in
     ap (slice_get (u ∷ y ∷ ys)) outer ∙ ap (slice_get (y ∷ ys)) inner ∙ h
 
-last_of : (samples : List Sample) (s : Sample) → AllPairs IsEarlier samples → Contains samples s → ((t : Sample) → Contains samples t → t.time ≤ℤ s.time) → slice_get (values samples) (length (values samples) - 1) ≡ Some s.value
+last_of : (samples : List Sample) (s : Sample) → AllPairs IsEarlier samples → Contains samples s
+    → ((t : Sample) → Contains samples t → t.time ≤ℤ s.time) → slice_get (values samples) (length (values samples) - 1) ≡ Some s.value
 last_of [] s rise there greatest = absurd (omega (arith, there.1))
 last_of (t ∷ []) s rise there greatest = elim (head_or_rest t [] s there) [
   | inl same ↦ ap (λ z. Some z.value) same
@@ -151,19 +157,23 @@ record IsOf (axis : Axis) (g : Grid) (sums : List (Option ℤ)) (from to : ℕ) 
   holds : Holds sums slot s.value
   time : slot_time axis slot ≡ s.time
 
-is_of : (axis : Axis) (g : Grid) (sums : List (Option ℤ)) (c from to : ℕ) (s : Sample) → axis.slots ≡ length sums → AreColumn axis g c from to → Contains (of_column g c (kept g axis sums)) s → IsOf axis g sums from to s
+is_of : (axis : Axis) (g : Grid) (sums : List (Option ℤ)) (c from to : ℕ) (s : Sample) → axis.slots ≡ length sums
+    → AreColumn axis g c from to → Contains (of_column g c (kept g axis sums)) s → IsOf axis g sums from to s
 is_of axis g sums c from to s slots own there =
     let both = passes (in_column g c) (kept g axis sums) s there in
     let is : IsKept g axis sums s = kept_slot g axis sums s both.0 in
     let short : is.slot < length sums = slice_get_within sums is.slot (Some s.value) is.holds in
     let place : column g (slot_time axis is.slot) ≡ c = ap (column g) is.time ∙ true_same (column g s.time) c both.1 in
-    let within : (from ≤ is.slot) × (is.slot < to) = (own is.slot).0 (record { slot = omega (arith, short, slots); shown = is.shown; place = place }) in
+    let within : (from ≤ is.slot) × (is.slot < to) = (own is.slot).0
+    (record { slot = omega (arith, short, slots); shown = is.shown; place = place }) in
     record { slot = is.slot; low = within.0; high = within.1; holds = is.holds; time = is.time }
 
-of_is : (axis : Axis) (g : Grid) (sums : List (Option ℤ)) (c from to i : ℕ) (v : ℤ) → AreColumn axis g c from to → from ≤ i → i < to → Holds sums i v → Contains (of_column g c (kept g axis sums)) (record { time = slot_time axis i; value = v })
+of_is : (axis : Axis) (g : Grid) (sums : List (Option ℤ)) (c from to i : ℕ) (v : ℤ) → AreColumn axis g c from to → from ≤ i → i < to
+    → Holds sums i v → Contains (of_column g c (kept g axis sums)) (record { time = slot_time axis i; value = v })
 of_is axis g sums c from to i v own low high holds =
     let is : IsInColumn axis g c i = (own i).1 (low, high) in
-    passed (in_column g c) (kept g axis sums) (record { time = slot_time axis i; value = v }) (slot_kept g axis sums i v holds is.shown) (same_true (column g (slot_time axis i)) c is.place)
+    passed (in_column g c) (kept g axis sums) (record { time = slot_time axis i; value = v }) (slot_kept g axis sums i v holds is.shown)
+    (same_true (column g (slot_time axis i)) c is.place)
 
 -- slots are in the order of their times
 time_order : (start : ℤ) (step i j : ℕ) → i ≤ j → (start +ℤ pos (i * step)) ≤ℤ (start +ℤ pos (j * step))
@@ -181,7 +191,8 @@ not_behind list i b j v clear high holds = elim (cases_lt i j) [
   | inr more ↦ more
 ]
 
-row_sums : (axis : Axis) (g : Grid) (sums : List (Option ℤ)) (r : Row) → axis.slots ≡ length sums → 0 < axis.step → IsRowOf axis g sums r → Sums r (values (of_column g r.column (kept g axis sums)))
+row_sums : (axis : Axis) (g : Grid) (sums : List (Option ℤ)) (r : Row) → axis.slots ≡ length sums → 0 < axis.step → IsRowOf axis g sums r
+    → Sums r (values (of_column g r.column (kept g axis sums)))
 row_sums axis g sums r slots step is =
     let ss : List Sample = of_column g r.column (kept g axis sums) in
     let rise : AllPairs IsEarlier ss = AllPairs-filter IsEarlier (in_column g r.column) (kept g axis sums) (kept_rise g axis sums step) in
@@ -189,28 +200,35 @@ row_sums axis g sums r slots step is =
     let first_in = of_is axis g sums r.column is.from is.to row.first_at r.first is.slots row.first.0 row.first.1 row.first.2 in
     let last_in = of_is axis g sums r.column is.from is.to row.last_at r.last is.slots row.last.0 row.last.1 row.last.2 in
     let least_in = of_is axis g sums r.column is.from is.to row.least.slot r.least is.slots row.least.low row.least.high row.least.holds in
-    let greatest_in = of_is axis g sums r.column is.from is.to row.greatest.slot r.greatest is.slots row.greatest.low row.greatest.high row.greatest.holds in
+    let greatest_in = of_is axis g sums r.column is.from is.to row.greatest.slot r.greatest is.slots row.greatest.low row.greatest.high
+    row.greatest.holds in
     record {
       first =
           first_of ss (record { time = slot_time axis row.first_at; value = r.first }) rise first_in
           (λ t there.
           let of = is_of axis g sums r.column is.from is.to t slots is.slots there in
-          let order = time_order axis.start axis.step row.first_at of.slot (not_before sums is.from row.first_at of.slot t.value row.first.3 of.low of.holds) in
+          let order = time_order axis.start axis.step row.first_at of.slot
+          (not_before sums is.from row.first_at of.slot t.value row.first.3 of.low of.holds) in
           let P : ℤ → Type 0 = λ z. slot_time axis row.first_at ≤ℤ z in
           subst P of.time order);
       least = record {
         among = value_among ss (slot_time axis row.least.slot) r.least least_in;
-        least = All-map (λ u. r.least ≤ℤ u) (λ s. s.value) ss (each_of (λ s. r.least ≤ℤ s.value) ss (λ t there. let of = is_of axis g sums r.column is.from is.to t slots is.slots there in row.none_below of.slot t.value of.low of.high of.holds));
+        least = All-map (λ u. r.least ≤ℤ u) (λ s. s.value) ss
+            (each_of (λ s. r.least ≤ℤ s.value) ss (λ t there. let of = is_of axis g sums r.column is.from is.to t slots is.slots there in
+            row.none_below of.slot t.value of.low of.high of.holds));
       };
       greatest = record {
         among = value_among ss (slot_time axis row.greatest.slot) r.greatest greatest_in;
-        greatest = All-map (λ u. u ≤ℤ r.greatest) (λ s. s.value) ss (each_of (λ s. s.value ≤ℤ r.greatest) ss (λ t there. let of = is_of axis g sums r.column is.from is.to t slots is.slots there in row.none_above of.slot t.value of.low of.high of.holds));
+        greatest = All-map (λ u. u ≤ℤ r.greatest) (λ s. s.value) ss
+            (each_of (λ s. s.value ≤ℤ r.greatest) ss (λ t there. let of = is_of axis g sums r.column is.from is.to t slots is.slots there in
+            row.none_above of.slot t.value of.low of.high of.holds));
       };
       last =
           last_of ss (record { time = slot_time axis row.last_at; value = r.last }) rise last_in
           (λ t there.
           let of = is_of axis g sums r.column is.from is.to t slots is.slots there in
-          let order = time_order axis.start axis.step of.slot row.last_at (not_behind sums row.last_at is.to of.slot t.value row.last.3 of.high of.holds) in
+          let order = time_order axis.start axis.step of.slot row.last_at
+          (not_behind sums row.last_at is.to of.slot t.value row.last.3 of.high of.holds) in
           let P : ℤ → Type 0 = λ z. z ≤ℤ slot_time axis row.last_at in
           subst P of.time order);
     }
@@ -226,22 +244,31 @@ row_sums axis g sums r slots step is =
       | inr later ↦ in_rest s.value (values ss) v (value_among ss t v later)
     ]
 
-spots_all : (g : Grid) (Q : Point → Type 0) (samples : List Sample) → All (λ s. Q (record { x = column g s.time; y = s.value })) samples → All Q (spots g (sample_points samples))
-spots_all g Q samples each = All-map Q (λ p. record { x = column g p.0; y = p.1 }) (sample_points samples) (All-map (λ p. Q (record { x = column g p.0; y = p.1 })) (λ s. (s.time, s.value)) samples each)
+spots_all : (g : Grid) (Q : Point → Type 0) (samples : List Sample) → All (λ s. Q (record { x = column g s.time; y = s.value })) samples
+    → All Q (spots g (sample_points samples))
+spots_all g Q samples each = All-map Q (λ p. record { x = column g p.0; y = p.1 }) (sample_points samples)
+    (All-map (λ p. Q (record { x = column g p.0; y = p.1 })) (λ s. (s.time, s.value)) samples each)
 
 -- the rows of all columns are those of the samples
-pub rows_are : (axis : Axis) (g : Grid) (sums : List (Option ℤ)) (rows : List Row) → axis.slots ≡ length sums → 0 < axis.step → ((t : ℤ) → InWindow g t → column g t < g.w) → AreRising rows → AreRowsBelow axis g sums g.w rows → AreRowsOf g (sample_points (kept g axis sums)) rows
+pub rows_are : (axis : Axis) (g : Grid) (sums : List (Option ℤ)) (rows : List Row) → axis.slots ≡ length sums → 0 < axis.step
+    → ((t : ℤ) → InWindow g t → column g t < g.w) → AreRising rows → AreRowsBelow axis g sums g.w rows
+    → AreRowsOf g (sample_points (kept g axis sums)) rows
 rows_are axis g sums rows slots step drawn rising below = record {
   rising = rising;
   each =
       All-weaker (IsRowOf axis g sums) (λ r. Sums r (values_in r.column (spots g (sample_points (kept g axis sums)))))
-      (λ r is. let P : List ℤ → Type 0 = λ vs. Sums r vs in subst P (sym (column_values g r.column (kept g axis sums))) (row_sums axis g sums r slots step is)) rows below.each;
+      (λ r is. let P : List ℤ → Type 0 = λ vs. Sums r vs in
+      subst P (sym (column_values g r.column (kept g axis sums))) (row_sums axis g sums r slots step is)) rows below.each;
   every =
       spots_all g (λ p. Contains (columns_of rows) p.x) (kept g axis sums)
       (All-weaker (IsKept g axis sums) (λ s. Contains (columns_of rows) (column g s.time))
       (λ s is.
       let short : is.slot < length sums = slice_get_within sums is.slot (Some s.value) is.holds in
-      let own : IsInColumn axis g (column g (slot_time axis is.slot)) is.slot = record { slot = omega (arith, short, slots); shown = is.shown; place = refl } in
+      let own : IsInColumn axis g (column g (slot_time axis is.slot)) is.slot = record {
+        slot = omega (arith, short, slots);
+        shown = is.shown;
+        place = refl;
+      } in
       let found = below.every (column g (slot_time axis is.slot)) is.slot s.value (drawn (slot_time axis is.slot) is.shown) own is.holds in
       let P : ℤ → Type 0 = λ t. Contains (columns_of rows) (column g t) in
       subst P is.time found) (kept g axis sums) (kept_slots g axis sums));
@@ -252,7 +279,12 @@ pub none_below : (axis : Axis) (g : Grid) (sums : List (Option ℤ)) → AreRows
 none_below axis g sums = record { each = All-nil (IsRowOf axis g sums); every = λ c i v less own holds. absurd (omega (arith, less)) }
 
 pub none_shown : (w : ℕ) → AreShown w 0 []
-none_shown w = record { rising = λ i j d less short. absurd (omega arith); drawable = All-nil (IsDrawable w); ordered = All-nil IsOrdered; below = All-nil (λ r. r.column < 0) }
+none_shown w = record {
+  rising = λ i j d less short. absurd (omega arith);
+  drawable = All-nil (IsDrawable w);
+  ordered = All-nil IsOrdered;
+  below = All-nil (λ r. r.column < 0);
+}
 
 below_next : (c n : ℕ) → c < n + 1 → (c < n) ⊎ (c ≡ n)
 below_next c n less = elim (cases_lt c n) [
@@ -261,7 +293,8 @@ below_next c n less = elim (cases_lt c n) [
 ]
 
 -- a column without a sum has no row
-pub column_without : (axis : Axis) (g : Grid) (sums : List (Option ℤ)) (n from to : ℕ) (rows : List Row) → AreColumn axis g n from to → IsClear sums from to → AreRowsBelow axis g sums n rows → AreRowsBelow axis g sums (n + 1) rows
+pub column_without : (axis : Axis) (g : Grid) (sums : List (Option ℤ)) (n from to : ℕ) (rows : List Row) → AreColumn axis g n from to
+    → IsClear sums from to → AreRowsBelow axis g sums n rows → AreRowsBelow axis g sums (n + 1) rows
 column_without axis g sums n from to rows own clear below = record {
   each = below.each;
   every = λ c i v less is holds. elim (below_next c n less) [
@@ -277,7 +310,8 @@ columns_push : (rows : List Row) (r : Row) → columns_of (rows ++ r ∷ []) ≡
 columns_push rows r = map-append (λ r. r.column) rows (r ∷ [])
 
 -- another one has its row behind the others
-pub column_with : (axis : Axis) (g : Grid) (sums : List (Option ℤ)) (n from to : ℕ) (rows : List Row) (r : Row) → AreColumn axis g n from to → r.column ≡ n → IsRowIn sums from to r → AreRowsBelow axis g sums n rows → AreRowsBelow axis g sums (n + 1) (rows ++ r ∷ [])
+pub column_with : (axis : Axis) (g : Grid) (sums : List (Option ℤ)) (n from to : ℕ) (rows : List Row) (r : Row) → AreColumn axis g n from to
+    → r.column ≡ n → IsRowIn sums from to r → AreRowsBelow axis g sums n rows → AreRowsBelow axis g sums (n + 1) (rows ++ r ∷ [])
 column_with axis g sums n from to rows r own same row below =
     let P : ℕ → Type 0 = λ m. AreColumn axis g m from to in
     let mine : IsRowOf axis g sums r = record { from = from; to = to; slots = subst P (sym same) own; row = row } in
@@ -287,21 +321,33 @@ column_with axis g sums n from to rows r own same row below =
           let Q : List ℕ → Type 0 = λ cs. Contains cs c in
           subst Q (sym (columns_push rows r)) (elim (below_next c n less) [
             | inl before ↦ Contains-append_left (columns_of rows) (r.column ∷ []) c (below.every c i v before is holds)
-            | inr here ↦ let R : ℕ → Type 0 = λ m. Contains (columns_of rows ++ r.column ∷ []) m in subst R (same ∙ sym here) (Contains-push (columns_of rows) r.column)
+            | inr here ↦ let R : ℕ → Type 0 = λ m. Contains (columns_of rows ++ r.column ∷ []) m in
+                subst R (same ∙ sym here) (Contains-push (columns_of rows) r.column)
           ]);
     }
 
-pub shown_with : (w n : ℕ) (rows : List Row) (r : Row) → n < w → r.column ≡ n → IsDrawable (n + 1) r → IsOrdered r → AreShown w n rows → AreShown w (n + 1) (rows ++ r ∷ [])
+pub shown_with : (w n : ℕ) (rows : List Row) (r : Row) → n < w → r.column ≡ n → IsDrawable (n + 1) r → IsOrdered r → AreShown w n rows
+    → AreShown w (n + 1) (rows ++ r ∷ [])
 shown_with w n rows r drawn same drawable order shown = record {
   rising = all_pairs_push (λ r s. r.column < s.column) rows r shown.rising (λ k d less. omega (arith, shown.below k d less, same));
-  drawable = All-push (IsDrawable w) rows r shown.drawable (record { column = omega (arith, drawn, same); order = drawable.order; first = drawable.first; least = drawable.least; greatest = drawable.greatest; last = drawable.last });
+  drawable = All-push (IsDrawable w) rows r shown.drawable
+      (record {
+        column = omega (arith, drawn, same);
+        order = drawable.order;
+        first = drawable.first;
+        least = drawable.least;
+        greatest = drawable.greatest;
+        last = drawable.last;
+      });
   ordered = All-push IsOrdered rows r shown.ordered order;
   below =
-      All-push (λ r. r.column < n + 1) rows r (All-weaker (λ r. r.column < n) (λ r. r.column < n + 1) (λ r less. omega (arith, less)) rows shown.below) (omega (arith, same));
+      All-push (λ r. r.column < n + 1) rows r (All-weaker (λ r. r.column < n) (λ r. r.column < n + 1)
+      (λ r less. omega (arith, less)) rows shown.below) (omega (arith, same));
 }
 
 -- the slots of a column are slots of the window
-window_within : (axis : Axis) (g : Grid) (from to i : ℕ) → AreSlotsBefore axis g.t0 from → AreSlotsBefore axis g.t1 to → i < axis.slots → InWindow g (slot_time axis i) → (from ≤ i) × (i < to)
+window_within : (axis : Axis) (g : Grid) (from to i : ℕ) → AreSlotsBefore axis g.t0 from → AreSlotsBefore axis g.t1 to → i < axis.slots
+    → InWindow g (slot_time axis i) → (from ≤ i) × (i < to)
 window_within axis g from to i start stop slot shown = (
   elim (cases_lt i from) [
     | inl less ↦ absurd (omega (arith, ints, shown.from, (start.before i slot).0 less))
@@ -311,11 +357,14 @@ window_within axis g from to i start stop slot shown = (
 )
 
 -- where no sum of the window is too large, none of a column is, and no sample
-pub column_small : (axis : Axis) (g : Grid) (sums : List (Option ℤ)) (from to : ℕ) → AreSlotsBefore axis g.t0 from → AreSlotsBefore axis g.t1 to → IsFirstLarge sums from to None → AreColumnValues axis g sums
+pub column_small : (axis : Axis) (g : Grid) (sums : List (Option ℤ)) (from to : ℕ) → AreSlotsBefore axis g.t0 from
+    → AreSlotsBefore axis g.t1 to → IsFirstLarge sums from to None → AreColumnValues axis g sums
 column_small axis g sums from to start stop small c i v own holds =
     let within = window_within axis g from to i start stop own.slot own.shown in small i v within.0 within.1 holds
 
-pub samples_small : (axis : Axis) (g : Grid) (sums : List (Option ℤ)) (from to : ℕ) → axis.slots ≡ length sums → AreSlotsBefore axis g.t0 from → AreSlotsBefore axis g.t1 to → IsFirstLarge sums from to None → All (λ s. IsValue s.value) (kept g axis sums)
+pub samples_small : (axis : Axis) (g : Grid) (sums : List (Option ℤ)) (from to : ℕ) → axis.slots ≡ length sums
+    → AreSlotsBefore axis g.t0 from → AreSlotsBefore axis g.t1 to → IsFirstLarge sums from to None
+    → All (λ s. IsValue s.value) (kept g axis sums)
 samples_small axis g sums from to slots start stop small =
     All-weaker (IsKept g axis sums) (λ s. IsValue s.value)
     (λ s is.
@@ -324,10 +373,14 @@ samples_small axis g sums from to slots start stop small =
     small is.slot s.value within.0 within.1 is.holds) (kept g axis sums) (kept_slots g axis sums)
 
 -- the slot lies in the window
-shown_slot : (axis : Axis) (g : Grid) (from to i : ℕ) → AreSlotsBefore axis g.t0 from → AreSlotsBefore axis g.t1 to → from ≤ i → i < to → InWindow g (slot_time axis i)
+shown_slot : (axis : Axis) (g : Grid) (from to i : ℕ) → AreSlotsBefore axis g.t0 from → AreSlotsBefore axis g.t1 to → from ≤ i → i < to
+    → InWindow g (slot_time axis i)
 shown_slot axis g from to i start stop low high =
     let slot : i < axis.slots = omega (arith, high, stop.within) in
-    record { from = not_less (slot_time axis i) g.t0 (λ less. omega (arith, low, (start.before i slot).1 less)); to = (stop.before i slot).0 high }
+    record {
+      from = not_less (slot_time axis i) g.t0 (λ less. omega (arith, low, (start.before i slot).1 less));
+      to = (stop.before i slot).0 high;
+    }
   where
     not_less : (s t : ℤ) → (s <ℤ t → ⊥) → t ≤ℤ s
     not_less s t h = by_lt_z s t (λ less. absurd (h less)) (λ le. le)
@@ -339,7 +392,9 @@ step_order axis i j less = elim (cases_lt i j) [
 ]
 
 -- the first sum that is too large is that of the first such sample
-pub first_too_large : (axis : Axis) (g : Grid) (sums : List (Option ℤ)) (from to slot : ℕ) (value time : ℤ) → axis.slots ≡ length sums → AreSlotsBefore axis g.t0 from → AreSlotsBefore axis g.t1 to → (IsTime (slot_time axis slot) → time ≡ slot_time axis slot) → IsFirstLarge sums from to (Some (slot, value)) → IsFirstTooLarge (kept g axis sums) time
+pub first_too_large : (axis : Axis) (g : Grid) (sums : List (Option ℤ)) (from to slot : ℕ) (value time : ℤ) → axis.slots ≡ length sums
+    → AreSlotsBefore axis g.t0 from → AreSlotsBefore axis g.t1 to → (IsTime (slot_time axis slot) → time ≡ slot_time axis slot)
+    → IsFirstLarge sums from to (Some (slot, value)) → IsFirstTooLarge (kept g axis sums) time
 first_too_large axis g sums from to slot value time slots start stop is found =
     let shown : InWindow g (slot_time axis slot) = shown_slot axis g from to slot start stop found.0 found.1 in
     let fits : IsTime (slot_time axis slot) = window_time g (slot_time axis slot) shown in
@@ -362,13 +417,16 @@ first_too_large axis g sums from to slot value time slots start stop is found =
     window_time g t shown = grind (arith, ints, shown.from, shown.to, g.window.from_size, g.window.to_size)
 
 -- an error that is passed on
-pub passed_error : {T : Type 0} (result : Result T DerivedError) (e : DerivedError) (P : DerivedError → Type 0) → IsErrAnd result (λ x. x ≡ e) → P e → IfErr result P
+pub passed_error : {T : Type 0} (result : Result T DerivedError) (e : DerivedError) (P : DerivedError → Type 0)
+    → IsErrAnd result (λ x. x ≡ e) → P e → IfErr result P
 passed_error (Ok v) e P is holds = tt
 passed_error (Err x) e P is holds = subst P (sym is) holds
 
-pub error_answer : (g : Grid) (samples : List Sample) (result : Result (List Row) DerivedError) (e : DerivedError) (causes : NodeError → Type 0) → IsErrAnd result (λ x. x ≡ e) → IsRowCause causes e → IsAnswer g samples result
+pub error_answer : (g : Grid) (samples : List Sample) (result : Result (List Row) DerivedError) (e : DerivedError) (causes : NodeError
+    → Type 0) → IsErrAnd result (λ x. x ≡ e) → IsRowCause causes e → IsAnswer g samples result
 error_answer g samples (Ok rows) e causes is cause = absurd is
-error_answer g samples (Err (TooLarge time)) e causes is cause = let P : DerivedError → Type 0 = λ x. IsRowCause causes x in absurd (subst P (sym is) cause)
+error_answer g samples (Err (TooLarge time)) e causes is cause = let P : DerivedError → Type 0 = λ x. IsRowCause causes x in
+    absurd (subst P (sym is) cause)
 error_answer g samples (Err (Node n)) e causes is cause = tt
 error_answer g samples (Err NoMemory) e causes is cause = tt
 

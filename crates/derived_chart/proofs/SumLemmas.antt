@@ -23,28 +23,33 @@ first_clear sum xs ys sums p q are none i v low high holds =
     spanned xs p q None none i adds.x low high adds.first
 
 -- a sum's slot in the second series
-second_slot : (sum : Sum) (xs ys sums : List (Option ℤ)) (p q count : ℕ) (r : ℕ × ℕ) (i : ℕ) (v : ℤ) → count ≡ length ys → AreBeside sum.shift count p q r → p ≤ i → i < q → (adds : Adds sum xs ys i v) → (r.0 ≤ adds.second.slot) × (adds.second.slot < r.1)
+second_slot : (sum : Sum) (xs ys sums : List (Option ℤ)) (p q count : ℕ) (r : ℕ × ℕ) (i : ℕ) (v : ℤ) → count ≡ length ys
+    → AreBeside sum.shift count p q r → p ≤ i → i < q → (adds : Adds sum xs ys i v) → (r.0 ≤ adds.second.slot) × (adds.second.slot < r.1)
 second_slot sum xs ys sums p q count r i v counted beside low high adds =
     let within = slice_get_within ys adds.second.slot (Some adds.y) adds.second.holds in
     beside.each i adds.second.slot low high (omega (arith, within, counted)) adds.second.here
 
 -- where the second series stores nothing beside the range, neither
-pub second_clear : (sum : Sum) (xs ys sums : List (Option ℤ)) (p q count : ℕ) (r : ℕ × ℕ) → AreSums sum xs ys sums → count ≡ length ys → AreBeside sum.shift count p q r → None ≡ span_over ys r.0 r.1 → IsClear sums p q
+pub second_clear : (sum : Sum) (xs ys sums : List (Option ℤ)) (p q count : ℕ) (r : ℕ × ℕ) → AreSums sum xs ys sums → count ≡ length ys
+    → AreBeside sum.shift count p q r → None ≡ span_over ys r.0 r.1 → IsClear sums p q
 second_clear sum xs ys sums p q count r are counted beside none i v low high holds =
     let adds = (are.each i v).0 holds in
     let here = second_slot sum xs ys sums p q count r i v counted beside low high adds in
     spanned ys r.0 r.1 None none adds.second.slot adds.y here.0 here.1 adds.second.holds
 
 -- else they lie between the sums of the products
-pub between : (sum : Sum) (xs ys sums : List (Option ℤ)) (p q count : ℕ) (r : ℕ × ℕ) (x y : Span) (b c : ℤ × ℤ) (lo hi : ℤ) → AreSums sum xs ys sums → count ≡ length ys → AreBeside sum.shift count p q r
-    → Some x ≡ span_over xs p q → Some y ≡ span_over ys r.0 r.1 → AreProducts sum.a x b → AreProducts sum.b y c → lo ≡ b.0 +ℤ c.0 → hi ≡ b.1 +ℤ c.1 → AreBetween sums p q (Some (lo, hi))
+pub between : (sum : Sum) (xs ys sums : List (Option ℤ)) (p q count : ℕ) (r : ℕ × ℕ) (x y : Span) (b c : ℤ × ℤ) (lo hi : ℤ)
+    → AreSums sum xs ys sums → count ≡ length ys → AreBeside sum.shift count p q r
+    → Some x ≡ span_over xs p q → Some y ≡ span_over ys r.0 r.1 → AreProducts sum.a x b → AreProducts sum.b y c → lo ≡ b.0 +ℤ c.0
+    → hi ≡ b.1 +ℤ c.1 → AreBetween sums p q (Some (lo, hi))
 between sum xs ys sums p q count r x y b c lo hi are counted beside first second products others low_is high_is i v low high holds =
     let adds = (are.each i v).0 holds in
     let here = second_slot sum xs ys sums p q count r i v counted beside low high adds in
     let X : AreExtremes xs p q x = spanned xs p q (Some x) first in
     let Y : AreExtremes ys r.0 r.1 y = spanned ys r.0 r.1 (Some y) second in
     let one = products.within adds.x (X.above i adds.x low high adds.first) (X.below i adds.x low high adds.first) in
-    let other = others.within adds.y (Y.above adds.second.slot adds.y here.0 here.1 adds.second.holds) (Y.below adds.second.slot adds.y here.0 here.1 adds.second.holds) in
+    let other = others.within adds.y (Y.above adds.second.slot adds.y here.0 here.1 adds.second.holds)
+    (Y.below adds.second.slot adds.y here.0 here.1 adds.second.holds) in
     (omega (arith, ints, low_is, adds.is, one.0, other.0), omega (arith, ints, high_is, adds.is, one.1, other.1))
 
 -- one slot holds one value
@@ -55,8 +60,10 @@ one_value list i j v w same first second =
     cc
 
 -- of a single slot it is the sum that stands there
-pub here : (sum : Sum) (xs ys sums : List (Option ℤ)) (p q count : ℕ) (r : ℕ × ℕ) (x y : Span) (b c : ℤ × ℤ) (lo hi : ℤ) → AreSums sum xs ys sums → count ≡ length ys → AreBeside sum.shift count p q r
-    → Some x ≡ span_over xs p q → Some y ≡ span_over ys r.0 r.1 → AreProducts sum.a x b → AreProducts sum.b y c → lo ≡ b.0 +ℤ c.0 → hi ≡ b.1 +ℤ c.1 → q ≡ p + 1 → Holds sums p lo × (hi ≡ lo)
+pub here : (sum : Sum) (xs ys sums : List (Option ℤ)) (p q count : ℕ) (r : ℕ × ℕ) (x y : Span) (b c : ℤ × ℤ) (lo hi : ℤ)
+    → AreSums sum xs ys sums → count ≡ length ys → AreBeside sum.shift count p q r
+    → Some x ≡ span_over xs p q → Some y ≡ span_over ys r.0 r.1 → AreProducts sum.a x b → AreProducts sum.b y c → lo ≡ b.0 +ℤ c.0
+    → hi ≡ b.1 +ℤ c.1 → q ≡ p + 1 → Holds sums p lo × (hi ≡ lo)
 here sum xs ys sums p q count r x y b c lo hi are counted beside first second products others low_is high_is single =
     let X : AreExtremes xs p q x = spanned xs p q (Some x) first in
     let Y : AreExtremes ys r.0 r.1 y = spanned ys r.0 r.1 (Some y) second in
@@ -82,14 +89,18 @@ here sum xs ys sums p q count r x y b c lo hi are counted beside first second pr
     )
 
 -- what is said of a shift as it is passed
-pub beside_as : (shift : ℤ) (count p q : ℕ) (r : ℕ × ℕ) → unsigned_abs shift ≤ 4 * 10 ^ 18 → AreBeside (to_z w64 (of_z w64 shift)) count p q r → AreBeside shift count p q r
-beside_as shift count p q r small = subst (λ z. AreBeside z count p q r) (to_z-of_z w64 shift (fits_signed_from_abs w64 shift (omega (arith, small))))
+pub beside_as : (shift : ℤ) (count p q : ℕ) (r : ℕ × ℕ) → unsigned_abs shift ≤ 4 * 10 ^ 18
+    → AreBeside (to_z w64 (of_z w64 shift)) count p q r → AreBeside shift count p q r
+beside_as shift count p q r small = subst (λ z. AreBeside z count p q r)
+    (to_z-of_z w64 shift (fits_signed_from_abs w64 shift (omega (arith, small))))
 
 -- an error that is passed on
-pub passed_on : {T : Type 0} (result : Result T NodeError) (e : NodeError) (P : NodeError → Type 0) → IsErrAnd result (λ x. x ≡ e) → P e → IfErr result P
+pub passed_on : {T : Type 0} (result : Result T NodeError) (e : NodeError) (P : NodeError → Type 0) → IsErrAnd result (λ x. x ≡ e) → P e
+    → IfErr result P
 passed_on (Ok v) e P is holds = tt
 passed_on (Err x) e P is holds = subst P (sym is) holds
 
 -- what is said of a result that is there
-pub value_between : (list : List (Option ℤ)) (p q : ℕ) (o : Option (ℤ × ℤ)) (b : ℤ × ℤ) → o ≡ Some b → AreBetween list p q o → AreBetween list p q (Some b)
+pub value_between : (list : List (Option ℤ)) (p q : ℕ) (o : Option (ℤ × ℤ)) (b : ℤ × ℤ) → o ≡ Some b → AreBetween list p q o
+    → AreBetween list p q (Some b)
 value_between list p q o b is = subst (AreBetween list p q) is

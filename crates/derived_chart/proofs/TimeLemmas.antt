@@ -1,5 +1,6 @@
 -- Slots of a window, and series on one grid.
-use Rattle.std.proofs.Common.{◌≡◌, ℕ, ℤ, pos, negsuc, ◌*◌, ◌/◌, ◌%◌, ◌<◌, ◌≤◌, ◌*ℤ◌, ◌<ℤ◌, ◌≢◌, inl, inr, arith, sym, ◌∙◌, ap, ap₂, subst, ◌^◌, ◌+ℤ◌}
+use Rattle.std.proofs.Common.{◌≡◌, ℕ, ℤ, pos, negsuc, ◌*◌, ◌/◌, ◌%◌, ◌<◌, ◌≤◌, ◌*ℤ◌, ◌<ℤ◌, ◌≢◌, inl, inr, arith, sym, ◌∙◌, ap, ap₂, subst}
+use Rattle.std.proofs.Common.{◌^◌, ◌+ℤ◌}
 use mir.Syntax.{w128}
 use Rattle.std.specs.Int.RustNames.{FitsSigned}
 use Rattle.derived_chart.proofs.ProductLemmas.{wide, fits_wide}
@@ -30,7 +31,9 @@ passed_time : (t : ℤ) → IsValue t → to_z w64 (of_z w64 t) ≡ t
 passed_time t small = to_z-of_z w64 t (fits_signed_from_abs w64 t (omega (arith, small)))
 
 -- starts that are no multiple of the step apart are on no common grid
-pub no_shift : (x y : Axis) (gap step : ℕ) → IsValue x.start → IsValue y.start → gap ≡ unsigned_abs (to_z w64 (of_z w64 y.start) -ℤ to_z w64 (of_z w64 x.start)) → step ≡ x.step → gap % step ≢ 0 → (d : ℤ) → IsShift x y d → ⊥
+pub no_shift : (x y : Axis) (gap step : ℕ) → IsValue x.start → IsValue y.start
+    → gap ≡ unsigned_abs (to_z w64 (of_z w64 y.start) -ℤ to_z w64 (of_z w64 x.start)) → step ≡ x.step → gap % step ≢ 0 → (d : ℤ)
+    → IsShift x y d → ⊥
 no_shift x y gap step first second is same odd d shift =
     let P : ℤ → Type 0 = λ z. gap ≡ unsigned_abs (z -ℤ to_z w64 (of_z w64 x.start)) in
     let Q : ℤ → Type 0 = λ z. gap ≡ unsigned_abs (y.start -ℤ z) in
@@ -44,7 +47,8 @@ neg_times : (k n : ℕ) → (neg_ℤ (pos k) *ℤ pos n) ≡ neg_ℤ (pos (k * n
 neg_times k n = grind (arith, ints)
 
 -- else the second series began so many slots later, where its start is the later one
-pub later_shift : (x y : Axis) (gap step : ℕ) (d : ℤ) → IsValue x.start → IsValue y.start → gap ≡ unsigned_abs (to_z w64 (of_z w64 y.start) -ℤ to_z w64 (of_z w64 x.start)) → y.step ≡ x.step → step ≡ x.step → gap % step ≡ 0
+pub later_shift : (x y : Axis) (gap step : ℕ) (d : ℤ) → IsValue x.start → IsValue y.start
+    → gap ≡ unsigned_abs (to_z w64 (of_z w64 y.start) -ℤ to_z w64 (of_z w64 x.start)) → y.step ≡ x.step → step ≡ x.step → gap % step ≡ 0
     → to_z w64 (of_z w64 x.start) <ℤ to_z w64 (of_z w64 y.start) → d ≡ neg_ℤ (pos (gap / step)) → IsShift x y d
 later_shift x y gap step d first second is steps same even less d_is =
     let P : ℤ → Type 0 = λ z. gap ≡ unsigned_abs (z -ℤ to_z w64 (of_z w64 x.start)) in
@@ -67,12 +71,15 @@ pos_times k n = grind (arith, ints)
 far_small : (i n : ℕ) → i < 2 ^ 64 → n < 2 ^ 32 → i * n ≤ 2 ^ 96
 far_small i n slot step = omega (arith, mul-le i n (2 ^ 64) (2 ^ 32) (omega (arith, slot)) (omega (arith, step)))
 
-far_product : (i n : ℕ) (u v : ℤ) → i < 2 ^ 64 → n < 2 ^ 32 → u ≡ pos i → v ≡ pos n → (to_z w128 (of_z w128 u) *ℤ to_z w128 (of_z w128 v)) ≡ pos (i * n)
+far_product : (i n : ℕ) (u v : ℤ) → i < 2 ^ 64 → n < 2 ^ 32 → u ≡ pos i → v ≡ pos n
+    → (to_z w128 (of_z w128 u) *ℤ to_z w128 (of_z w128 v)) ≡ pos (i * n)
 far_product i n u v slot step first second =
     ap₂ (λ y z. y *ℤ z) (wide (pos i) u (omega (arith, slot)) first) (wide (pos n) v (omega (arith, step)) second) ∙ pos_times i n
 
-pub far_product_fits : (i n : ℕ) (u v : ℤ) → i < 2 ^ 64 → n < 2 ^ 32 → u ≡ pos i → v ≡ pos n → FitsSigned w128 (to_z w128 (of_z w128 u) *ℤ to_z w128 (of_z w128 v))
-far_product_fits i n u v slot step first second = fits_wide (pos (i * n)) _ (omega (arith, far_small i n slot step)) (far_product i n u v slot step first second)
+pub far_product_fits : (i n : ℕ) (u v : ℤ) → i < 2 ^ 64 → n < 2 ^ 32 → u ≡ pos i → v ≡ pos n
+    → FitsSigned w128 (to_z w128 (of_z w128 u) *ℤ to_z w128 (of_z w128 v))
+far_product_fits i n u v slot step first second = fits_wide (pos (i * n)) _ (omega (arith, far_small i n slot step))
+    (far_product i n u v slot step first second)
 
 start_small : (z : ℤ) → FitsSigned w64 z → unsigned_abs z ≤ 2 ^ 63
 start_small (pos n) fits = omega (arith, fits.sfits)
@@ -81,18 +88,24 @@ start_small (negsuc n) fits = omega (arith, fits.sfits)
 time_small : (z : ℤ) (m : ℕ) → unsigned_abs z ≤ 2 ^ 63 → m ≤ 2 ^ 96 → unsigned_abs (z +ℤ pos m) < 2 ^ 127
 time_small z m small few = omega (arith, ints, small, few)
 
-far_sum : (a : Axis) (i : ℕ) (r u v : ℤ) → FitsSigned w64 a.start → i < 2 ^ 64 → a.step < 2 ^ 32 → r ≡ to_z w64 (of_z w64 a.start) → u ≡ pos i → v ≡ pos a.step
+far_sum : (a : Axis) (i : ℕ) (r u v : ℤ) → FitsSigned w64 a.start → i < 2 ^ 64 → a.step < 2 ^ 32 → r ≡ to_z w64 (of_z w64 a.start)
+    → u ≡ pos i → v ≡ pos a.step
     → (to_z w128 (of_z w128 r) +ℤ to_z w128 (of_z w128 (to_z w128 (of_z w128 u) *ℤ to_z w128 (of_z w128 v)))) ≡ slot_time a i
 far_sum a i r u v start slot step is first second =
     ap₂ (λ y z. y +ℤ z) (wide a.start r (omega (arith, start_small a.start start)) (is ∙ to_z-of_z w64 a.start start))
     (wide (pos (i * a.step)) _ (omega (arith, far_small i a.step slot step)) (far_product i a.step u v slot step first second))
 
-pub far_sum_fits : (a : Axis) (i : ℕ) (r u v : ℤ) → FitsSigned w64 a.start → i < 2 ^ 64 → a.step < 2 ^ 32 → r ≡ to_z w64 (of_z w64 a.start) → u ≡ pos i → v ≡ pos a.step
+pub far_sum_fits : (a : Axis) (i : ℕ) (r u v : ℤ) → FitsSigned w64 a.start → i < 2 ^ 64 → a.step < 2 ^ 32 → r ≡ to_z w64 (of_z w64 a.start)
+    → u ≡ pos i → v ≡ pos a.step
     → FitsSigned w128 (to_z w128 (of_z w128 r) +ℤ to_z w128 (of_z w128 (to_z w128 (of_z w128 u) *ℤ to_z w128 (of_z w128 v))))
 far_sum_fits a i r u v start slot step is first second =
-    fits_wide (slot_time a i) _ (time_small a.start (i * a.step) (start_small a.start start) (far_small i a.step slot step)) (far_sum a i r u v start slot step is first second)
+    fits_wide (slot_time a i) _ (time_small a.start (i * a.step) (start_small a.start start) (far_small i a.step slot step))
+    (far_sum a i r u v start slot step is first second)
 
-pub far_sum_is : (a : Axis) (i : ℕ) (r u v : ℤ) → FitsSigned w64 a.start → i < 2 ^ 64 → a.step < 2 ^ 32 → r ≡ to_z w64 (of_z w64 a.start) → u ≡ pos i → v ≡ pos a.step
-    → to_z w128 (of_z w128 (to_z w128 (of_z w128 r) +ℤ to_z w128 (of_z w128 (to_z w128 (of_z w128 u) *ℤ to_z w128 (of_z w128 v))))) ≡ slot_time a i
+pub far_sum_is : (a : Axis) (i : ℕ) (r u v : ℤ) → FitsSigned w64 a.start → i < 2 ^ 64 → a.step < 2 ^ 32 → r ≡ to_z w64 (of_z w64 a.start)
+    → u ≡ pos i → v ≡ pos a.step
+    → to_z w128 (of_z w128 (to_z w128 (of_z w128 r) +ℤ to_z w128
+    (of_z w128 (to_z w128 (of_z w128 u) *ℤ to_z w128 (of_z w128 v))))) ≡ slot_time a i
 far_sum_is a i r u v start slot step is first second =
-    wide (slot_time a i) _ (time_small a.start (i * a.step) (start_small a.start start) (far_small i a.step slot step)) (far_sum a i r u v start slot step is first second)
+    wide (slot_time a i) _ (time_small a.start (i * a.step) (start_small a.start start) (far_small i a.step slot step))
+    (far_sum a i r u v start slot step is first second)

@@ -23,7 +23,8 @@ pub record AreProducts (a : ℤ) (s : Span) (b : ℤ × ℤ) : Type 0 where
   pub small : AreSmall b
   pub one : s.min ≡ s.max → (b.0 ≡ a *ℤ s.min) × (b.1 ≡ a *ℤ s.min)
 
--- The slots from r.0 on and below r.1 of the second series are those, below its length, that have the times of the slots from p on and below q.
+-- The slots from r.0 on and below r.1 of the second series are those, below its length, that have the times of the slots from p on
+-- and below q.
 pub record AreBeside (shift : ℤ) (count p q : ℕ) (r : ℕ × ℕ) : Type 0 where
   pub ordered : r.0 ≤ r.1
   pub within : r.1 ≤ count

@@ -1,5 +1,6 @@
 -- The rows of sums, column by column.
-use Rattle.std.specs.Prelude.{ℕ, ℤ, ◌<◌, ◌≤◌, ◌^◌, ◌<ℤ◌, ◌≤ℤ◌, ◌↔◌, ⊤, List, All, Contains, Option, None, Some, Result, Ok, Err, unsigned_abs}
+use Rattle.std.specs.Prelude.{ℕ, ℤ, ◌<◌, ◌≤◌, ◌^◌, ◌<ℤ◌, ◌≤ℤ◌, ◌↔◌, ⊤, List, All, Contains, Option, None, Some, Result, Ok, Err}
+use Rattle.std.specs.Prelude.{unsigned_abs}
 use Rattle.chart_grid.specs.declared.axis.Axis.{Axis}
 use Rattle.chart_grid.specs.declared.grid.Grid.{Grid}
 use Rattle.chart_grid.specs.Slots.{IsInColumn}
@@ -109,4 +110,5 @@ AreColumnValues axis g sums = (c i : ℕ) (v : ℤ) → IsInColumn axis g c i �
 
 -- so of the sums of two lists that are so, where none of them in a column is too large
 abbrev pub ForColumnSums : Axis → Grid → Sum → (List (Option ℤ) → List (Option ℤ) → Type 0) → (List (Option ℤ) → Type 0) → Type 0
-ForColumnSums axis g sum Are IsSo = (xs ys sums : List (Option ℤ)) → Are xs ys → AreSums sum xs ys sums → AreColumnValues axis g sums → IsSo sums
+ForColumnSums axis g sum Are IsSo = (xs ys sums : List (Option ℤ)) → Are xs ys → AreSums sum xs ys sums → AreColumnValues axis g sums
+    → IsSo sums

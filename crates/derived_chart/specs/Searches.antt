@@ -16,7 +16,8 @@ Beats Greatest m v = v ≤ℤ m
 -- the least, or the greatest, of the values of the slots from p on and below q and of what was found before, if any
 abbrev pub IsBestWith : Best → List (Option ℤ) → ℕ → ℕ → Option ℤ → Option ℤ → Type 0
 IsBestWith best list p q before None = (before ≡ None) × IsClear list p q
-IsBestWith best list p q before (Some m) = ((before ≡ Some m) ⊎ IsStored list p q m) × IfSome before (λ b. Beats best m b) × ((i : ℕ) (v : ℤ) → p ≤ i → i < q → Holds list i v → Beats best m v)
+IsBestWith best list p q before (Some m) = ((before ≡ Some m) ⊎ IsStored list p q m) × IfSome before (λ b. Beats best m b)
+    × ((i : ℕ) (v : ℤ) → p ≤ i → i < q → Holds list i v → Beats best m v)
 
 -- the least, or the greatest, of the values of the slots from p on and below q, or nothing where none is stored
 abbrev pub IsBestOf : Best → List (Option ℤ) → ℕ → ℕ → Option ℤ → Type 0
@@ -83,4 +84,5 @@ IsOneFound large p b (Some found) = (found.0 ≡ p) × (found.1 ≡ b.0) × IsWa
 -- the first of the slots from p on and below q with a value that no series can hold, or nothing where none has one
 abbrev pub IsFirstLarge : List (Option ℤ) → ℕ → ℕ → Option (ℕ × ℤ) → Type 0
 IsFirstLarge list p q None = (i : ℕ) (v : ℤ) → p ≤ i → i < q → Holds list i v → IsValue v
-IsFirstLarge list p q (Some found) = (p ≤ found.0) × (found.0 < q) × Holds list found.0 found.1 × (10 ^ 18 < unsigned_abs found.1) × ((i : ℕ) (v : ℤ) → p ≤ i → i < found.0 → Holds list i v → IsValue v)
+IsFirstLarge list p q (Some found) = (p ≤ found.0) × (found.0 < q) × Holds list found.0 found.1 × (10 ^ 18 < unsigned_abs found.1)
+    × ((i : ℕ) (v : ℤ) → p ≤ i → i < found.0 → Holds list i v → IsValue v)

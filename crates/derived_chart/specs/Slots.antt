@@ -1,5 +1,6 @@
 -- Slots that are read into an array.
-use Rattle.std.specs.Prelude.{ℕ, ℤ, pos, ◌≡◌, ◌≢◌, ◌+◌, ◌<◌, ◌≤ℤ◌, ◌<ℤ◌, ◌+ℤ◌, ◌*ℤ◌, ◌↔◌, ◌⊎◌, List, slice_index_or, Option, None, Some, IfSome}
+use Rattle.std.specs.Prelude.{ℕ, ℤ, pos, ◌≡◌, ◌≢◌, ◌+◌, ◌<◌, ◌≤ℤ◌, ◌<ℤ◌, ◌+ℤ◌, ◌*ℤ◌, ◌↔◌, ◌⊎◌, List, slice_index_or, Option, None, Some}
+use Rattle.std.specs.Prelude.{IfSome}
 use Rattle.whole_number.specs.Range.{IsValue}
 use Rattle.om3_coeff.specs.declared.key.Key.{Key}
 use Rattle.om3_coeff.specs.Keys.{first_slot, end_slot}
@@ -73,4 +74,5 @@ IsBetterOf best found (Some v) (Some m) = ((found ≡ Some m) ⊎ (v ≡ m)) × 
 
 -- the sums of the `count` slots from p on are those of the two arrays
 abbrev pub AreArraySums : Sum → List (Option ℤ) → List (Option ℤ) → ℕ → ℕ → List (Option ℤ) → Type 0
-AreArraySums sum xs ys count p sums = (i : ℕ) (v : ℤ) → i < count → Holds sums (p + i) v ↔ (sum_of_slots sum (entry xs i) (entry ys i) ≡ Some v)
+AreArraySums sum xs ys count p sums = (i : ℕ) (v : ℤ) → i < count
+    → Holds sums (p + i) v ↔ (sum_of_slots sum (entry xs i) (entry ys i) ≡ Some v)

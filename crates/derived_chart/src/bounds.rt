@@ -48,10 +48,12 @@ pub(crate) fn bounds<T: TwoTrees>(
     requires few { q ≤ 2 ^ 35 }
     requires small { IsSmall sum }
     ensures between { (xs ys sums : List (Option ℤ)) → T.are trees.old xs ys → AreSums sum xs ys sums → IfOk result (AreBetween sums p q) }
-    ensures one { (xs ys sums : List (Option ℤ)) → T.are trees.old xs ys → AreSums sum xs ys sums → q ≡ p + 1 → IfOk result (IsValueOf sums p) }
+    ensures one { (xs ys sums : List (Option ℤ)) → T.are trees.old xs ys → AreSums sum xs ys sums → q ≡ p + 1
+        → IfOk result (IsValueOf sums p) }
     ensures fit { (T.view trees.new).fit }
     ensures goes { T.goes trees.old trees.new }
-    ensures reads { (T.view trees.new).reads ≤ (T.view trees.old).reads + bounds_reads (levels (T.count false trees.old) (T.count true trees.old)) }
+    ensures reads { (T.view trees.new).reads ≤ (T.view trees.old).reads + bounds_reads
+        (levels (T.count false trees.old) (T.count true trees.old)) }
     ensures cause { IfErr result (T.causes trees.old trees.new) }
     ensures quiet { OnOk result ((T.view trees.new).faults ≡ (T.view trees.old).faults) }
     ensures quiet_err { IfErr result (λ e. e ≢ NodeError.DiskFault → (T.view trees.new).faults ≡ (T.view trees.old).faults) }

@@ -27,13 +27,15 @@ pub(crate) fn row_of_column<T: TwoTrees>(
     requires within { q ≤ T.count false trees.old }
     requires few { q ≤ 2 ^ 35 }
     requires small { IsSmall sum }
-    ensures row { (xs ys sums : List (Option ℤ)) → T.are trees.old xs ys → AreSums sum xs ys sums → AreValues sums p q → IfOk result (IsRowIfAny sums p q) }
+    ensures row { (xs ys sums : List (Option ℤ)) → T.are trees.old xs ys → AreSums sum xs ys sums → AreValues sums p q
+        → IfOk result (IsRowIfAny sums p q) }
     ensures column { IfOk result (λ row. IfSome row (λ r. r.column ≡ column)) }
     ensures drawable { IfOk result (λ row. IfSome row (IsDrawable (column + 1))) }
     ensures ordered { IfOk result (λ row. IfSome row IsOrdered) }
     ensures fit { (T.view trees.new).fit }
     ensures goes { T.goes trees.old trees.new }
-    ensures reads { (T.view trees.new).reads ≤ (T.view trees.old).reads + row_reads (q - p) (levels (T.count false trees.old) (T.count true trees.old)) }
+    ensures reads { (T.view trees.new).reads ≤ (T.view trees.old).reads + row_reads (q - p)
+        (levels (T.count false trees.old) (T.count true trees.old)) }
     ensures cause { IfErr result (T.causes trees.old trees.new) }
     ensures quiet { OnOk result ((T.view trees.new).faults ≡ (T.view trees.old).faults) }
     ensures quiet_err { IfErr result (λ e. e ≢ NodeError.DiskFault → (T.view trees.new).faults ≡ (T.view trees.old).faults) }
@@ -59,7 +61,8 @@ fn row_of(
 ) -> Row
     ensures column { result.column ≡ column }
     ensures drawable { IsDrawable (column + 1) result }
-    ensures row { (sums : List (Option ℤ)) (p q : ℕ) → AreFound sums p q first.now last.now least.now greatest.now → IsRowIn sums p q result }
+    ensures row { (sums : List (Option ℤ)) (p q : ℕ) → AreFound sums p q first.now last.now least.now greatest.now
+        → IsRowIn sums p q result }
 {
     let low = sum_or(least, &first.1);
     let high = sum_or(greatest, &first.1);

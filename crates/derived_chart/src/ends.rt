@@ -66,10 +66,12 @@ pub(crate) fn end_from<T: TwoTrees>(
     requires within { q ≤ T.count false trees.old }
     requires few { q ≤ 2 ^ 35 }
     requires small { IsSmall sum }
-    ensures end { (xs ys sums : List (Option ℤ)) → T.are trees.old xs ys → AreSums sum xs ys sums → IfOk result (IsEndOf side large sums p q) }
+    ensures end { (xs ys sums : List (Option ℤ)) → T.are trees.old xs ys → AreSums sum xs ys sums
+        → IfOk result (IsEndOf side large sums p q) }
     ensures fit { (T.view trees.new).fit }
     ensures goes { T.goes trees.old trees.new }
-    ensures reads { (T.view trees.new).reads ≤ (T.view trees.old).reads + end_reads (q - p) (levels (T.count false trees.old) (T.count true trees.old)) }
+    ensures reads { (T.view trees.new).reads ≤ (T.view trees.old).reads + end_reads (q - p)
+        (levels (T.count false trees.old) (T.count true trees.old)) }
     ensures cause { IfErr result (T.causes trees.old trees.new) }
     ensures quiet { OnOk result ((T.view trees.new).faults ≡ (T.view trees.old).faults) }
     ensures quiet_err { IfErr result (λ e. e ≢ NodeError.DiskFault → (T.view trees.new).faults ≡ (T.view trees.old).faults) }
@@ -108,7 +110,8 @@ pub fn first_sum<T: TwoTrees>(
     ensures first { (xs ys sums : List (Option ℤ)) → T.are trees.old xs ys → AreSums sum xs ys sums → IfOk result (IsFirstStored sums p q) }
     ensures fit { (T.view trees.new).fit }
     ensures goes { T.goes trees.old trees.new }
-    ensures reads { (T.view trees.new).reads ≤ (T.view trees.old).reads + end_reads (q - p) (levels (T.count false trees.old) (T.count true trees.old)) }
+    ensures reads { (T.view trees.new).reads ≤ (T.view trees.old).reads + end_reads (q - p)
+        (levels (T.count false trees.old) (T.count true trees.old)) }
     ensures cause { IfErr result (T.causes trees.old trees.new) }
     ensures quiet { OnOk result ((T.view trees.new).faults ≡ (T.view trees.old).faults) }
     ensures quiet_err { IfErr result (λ e. e ≢ NodeError.DiskFault → (T.view trees.new).faults ≡ (T.view trees.old).faults) }
@@ -131,7 +134,8 @@ pub fn last_sum<T: TwoTrees>(
     ensures last { (xs ys sums : List (Option ℤ)) → T.are trees.old xs ys → AreSums sum xs ys sums → IfOk result (IsLastStored sums p q) }
     ensures fit { (T.view trees.new).fit }
     ensures goes { T.goes trees.old trees.new }
-    ensures reads { (T.view trees.new).reads ≤ (T.view trees.old).reads + end_reads (q - p) (levels (T.count false trees.old) (T.count true trees.old)) }
+    ensures reads { (T.view trees.new).reads ≤ (T.view trees.old).reads + end_reads (q - p)
+        (levels (T.count false trees.old) (T.count true trees.old)) }
     ensures cause { IfErr result (T.causes trees.old trees.new) }
     ensures quiet { OnOk result ((T.view trees.new).faults ≡ (T.view trees.old).faults) }
     ensures quiet_err { IfErr result (λ e. e ≢ NodeError.DiskFault → (T.view trees.new).faults ≡ (T.view trees.old).faults) }
@@ -155,7 +159,8 @@ pub fn first_large_sum<T: TwoTrees>(
     ensures large { (xs ys sums : List (Option ℤ)) → T.are trees.old xs ys → AreSums sum xs ys sums → IfOk result (IsFirstLarge sums p q) }
     ensures fit { (T.view trees.new).fit }
     ensures goes { T.goes trees.old trees.new }
-    ensures reads { (T.view trees.new).reads ≤ (T.view trees.old).reads + end_reads (q - p) (levels (T.count false trees.old) (T.count true trees.old)) }
+    ensures reads { (T.view trees.new).reads ≤ (T.view trees.old).reads + end_reads (q - p)
+        (levels (T.count false trees.old) (T.count true trees.old)) }
     ensures cause { IfErr result (T.causes trees.old trees.new) }
     ensures quiet { OnOk result ((T.view trees.new).faults ≡ (T.view trees.old).faults) }
     ensures quiet_err { IfErr result (λ e. e ≢ NodeError.DiskFault → (T.view trees.new).faults ≡ (T.view trees.old).faults) }

@@ -54,7 +54,8 @@ impl<'a> Nodes for ListPair<'a> {
 
     ghost view = { λ pair. pair_view pair.is_second pair.first.slots.now pair.second.slots.now pair.first.asked pair.second.asked };
 
-    ghost keeps = { λ old new. KeepsPair old.is_second new.is_second old.first.slots.now old.second.slots.now new.first.slots.now new.second.slots.now };
+    ghost keeps = { λ old new. KeepsPair old.is_second new.is_second old.first.slots.now old.second.slots.now new.first.slots.now
+        new.second.slots.now };
 
     fn slots(&self) -> u64 {
         if self.is_second {
@@ -119,11 +120,14 @@ impl<'a> TwoTrees for ListPair<'a> {
 
     ghost still_count = { λ side old new going. same_counts side going };
 
-    ghost agrees = { λ at xs ys are. pair_agrees at.is_second are at.first.asked at.second.asked at.first.values at.second.values at.few_first at.few_second };
+    ghost agrees = { λ at xs ys are. pair_agrees at.is_second are at.first.asked at.second.asked at.first.values at.second.values
+        at.few_first at.few_second };
 
     ghost counts = { λ at. pair_counts at.is_second at.first.slots.now at.second.slots.now at.first.asked at.second.asked };
 
-    ghost asks_cause = { λ old new error kept cause. no_cause old.is_second new.is_second old.first.slots.now old.second.slots.now new.first.slots.now new.second.slots.now old.first.asked old.second.asked new.first.asked new.second.asked error kept.side cause };
+    ghost asks_cause = { λ old new error kept cause.
+        no_cause old.is_second new.is_second old.first.slots.now old.second.slots.now new.first.slots.now new.second.slots.now
+        old.first.asked old.second.asked new.first.asked new.second.asked error kept.side cause };
 
     ghost causes_behind = { λ old between new error going quiet cause. cause };
 }

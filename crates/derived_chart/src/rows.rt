@@ -43,7 +43,8 @@ pub fn derived_rows<T: TwoTrees>(
     ensures ordered { IfOk result (All IsOrdered) }
     ensures fit { (T.view trees.new).fit }
     ensures goes { T.goes trees.old trees.new }
-    ensures reads { ReadsInWindow axis grid (levels (T.count false trees.old) (T.count true trees.old)) (T.view trees.old).reads (T.view trees.new).reads }
+    ensures reads { ReadsInWindow axis grid (levels (T.count false trees.old) (T.count true trees.old)) (T.view trees.old).reads
+        (T.view trees.new).reads }
     ensures cause { IfErr result (IsCause (T.causes trees.old trees.new)) }
     ensures quiet { OnOk result ((T.view trees.new).faults ≡ (T.view trees.old).faults) }
     ensures quiet_err { IfErr result (λ e. e ≢ Node DiskFault → (T.view trees.new).faults ≡ (T.view trees.old).faults) }
@@ -87,11 +88,13 @@ fn rows_of_columns<T: TwoTrees>(
     requires few { axis.slots ≤ 2 ^ 35 }
     requires step { 0 < axis.step }
     requires small { IsSmall sum }
-    ensures rows { ForColumnSums axis grid sum (T.are trees.old) (λ sums. IfOk result (λ rows. AreRowsBelow axis grid sums grid.w rows.items)) }
+    ensures rows { ForColumnSums axis grid sum (T.are trees.old)
+        (λ sums. IfOk result (λ rows. AreRowsBelow axis grid sums grid.w rows.items)) }
     ensures shown { IfOk result (λ rows. AreShown grid.w grid.w rows.items) }
     ensures fit { (T.view trees.new).fit }
     ensures goes { T.goes trees.old trees.new }
-    ensures reads { ReadsBefore 18 axis grid grid.t1 (levels (T.count false trees.old) (T.count true trees.old)) (T.view trees.old).reads (T.view trees.new).reads }
+    ensures reads { ReadsBefore 18 axis grid grid.t1 (levels (T.count false trees.old) (T.count true trees.old)) (T.view trees.old).reads
+        (T.view trees.new).reads }
     ensures cause { IfErr result (IsRowCause (T.causes trees.old trees.new)) }
     ensures quiet { OnOk result ((T.view trees.new).faults ≡ (T.view trees.old).faults) }
     ensures quiet_err { IfErr result (λ e. e ≢ Node DiskFault → (T.view trees.new).faults ≡ (T.view trees.old).faults) }
@@ -118,11 +121,14 @@ fn add_column<T: TwoTrees>(
     requires step { 0 < axis.step }
     requires small { IsSmall sum }
     requires drawn { column < grid.w }
-    ensures rows { ForColumnSums axis grid sum (T.are trees.old) (λ sums. AreRowsBelow axis grid sums column rows.old.items → OnOk result (AreRowsBelow axis grid sums (column + 1) rows.new.items)) }
+    ensures rows { ForColumnSums axis grid sum (T.are trees.old) (λ sums. AreRowsBelow axis grid sums column rows.old.items
+        → OnOk result (AreRowsBelow axis grid sums (column + 1) rows.new.items)) }
     ensures shown { AreShown grid.w column rows.old.items → OnOk result (AreShown grid.w (column + 1) rows.new.items) }
     ensures fit { (T.view trees.new).fit }
     ensures goes { T.goes trees.old trees.new }
-    ensures reads { (from to : ℕ) → AreSlotsBefore axis (border grid column) from → AreSlotsBefore axis (border grid (column + 1)) to → (T.view trees.new).reads ≤ (T.view trees.old).reads + row_reads (to - from) (levels (T.count false trees.old) (T.count true trees.old)) }
+    ensures reads { (from to : ℕ) → AreSlotsBefore axis (border grid column) from → AreSlotsBefore axis (border grid (column + 1)) to
+        → (T.view trees.new).reads ≤ (T.view trees.old).reads + row_reads (to - from)
+        (levels (T.count false trees.old) (T.count true trees.old)) }
     ensures cause { IfErr result (IsRowCause (T.causes trees.old trees.new)) }
     ensures quiet { OnOk result ((T.view trees.new).faults ≡ (T.view trees.old).faults) }
     ensures quiet_err { IfErr result (λ e. e ≢ Node DiskFault → (T.view trees.new).faults ≡ (T.view trees.old).faults) }

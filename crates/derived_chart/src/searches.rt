@@ -1,5 +1,6 @@
 //! The least and the greatest of the sums of a range.
-ghost use Rattle.std.specs.Prelude.{◌≡◌, ◌≢◌, ℕ, ℤ, true, false, ◌+◌, ◌-◌, ◌+ℤ◌, ◌*ℤ◌, ◌*◌, ◌^◌, ◌<◌, ◌≤◌, ◌⊎◌, pos, List, Option, IfOk, IfErr, OnOk, IfSome, length, unsigned_abs};
+ghost use Rattle.std.specs.Prelude.{◌≡◌, ◌≢◌, ℕ, ℤ, true, false, ◌+◌, ◌-◌, ◌+ℤ◌, ◌*ℤ◌, ◌*◌, ◌^◌, ◌<◌, ◌≤◌, ◌⊎◌, pos, List, Option, IfOk};
+ghost use Rattle.std.specs.Prelude.{IfErr, OnOk, IfSome, length, unsigned_abs};
 ghost use Rattle.whole_number.specs.Range.{IsValue};
 ghost use Rattle.derived_chart.specs.Reads.{best_reads, levels};
 ghost use Rattle.derived_chart.specs.Searches.{Beats, IsBestOf, IsBestWith, IsBetter, IsNoBetter, IsRangeOf};
@@ -131,7 +132,8 @@ fn best_of_arrays(
     requires second { count ≤ length ys.now }
     requires values { HasValues xs.now }
     requires others { HasValues ys.now }
-    ensures { (sums : List (Option ℤ)) (p : ℕ) → AreArraySums sum xs.now ys.now count p sums → IsBestWith best sums p (p + count) found.now result }
+    ensures { (sums : List (Option ℤ)) (p : ℕ) → AreArraySums sum xs.now ys.now count p sums
+        → IsBestWith best sums p (p + count) found.now result }
 {
     let mut most = *found;
     for at in 0..count {
@@ -174,10 +176,12 @@ fn best_of_few<T: TwoTrees>(
     requires few { q ≤ p + 128 }
     requires within { q ≤ 2 ^ 35 }
     requires small { IsSmall sum }
-    ensures best { (xs ys sums : List (Option ℤ)) → T.are trees.old xs ys → AreSums sum xs ys sums → IfOk result (IsBestWith best sums p q found.now) }
+    ensures best { (xs ys sums : List (Option ℤ)) → T.are trees.old xs ys → AreSums sum xs ys sums
+        → IfOk result (IsBestWith best sums p q found.now) }
     ensures fit { (T.view trees.new).fit }
     ensures goes { T.goes trees.old trees.new }
-    ensures reads { (T.view trees.new).reads ≤ (T.view trees.old).reads + (q - p) * levels (T.count false trees.old) (T.count true trees.old) }
+    ensures reads { (T.view trees.new).reads ≤ (T.view trees.old).reads + (q - p) * levels (T.count false trees.old)
+        (T.count true trees.old) }
     ensures cause { IfErr result (T.causes trees.old trees.new) }
     ensures quiet { OnOk result ((T.view trees.new).faults ≡ (T.view trees.old).faults) }
     ensures quiet_err { IfErr result (λ e. e ≢ NodeError.DiskFault → (T.view trees.new).faults ≡ (T.view trees.old).faults) }
@@ -207,10 +211,12 @@ fn best_from<T: TwoTrees>(
     requires within { q ≤ T.count false trees.old }
     requires few { q ≤ 2 ^ 35 }
     requires small { IsSmall sum }
-    ensures best { (xs ys sums : List (Option ℤ)) → T.are trees.old xs ys → AreSums sum xs ys sums → IsRangeOf sums p q range.now → IfOk result (IsBestWith best sums p q found.now) }
+    ensures best { (xs ys sums : List (Option ℤ)) → T.are trees.old xs ys → AreSums sum xs ys sums → IsRangeOf sums p q range.now
+        → IfOk result (IsBestWith best sums p q found.now) }
     ensures fit { (T.view trees.new).fit }
     ensures goes { T.goes trees.old trees.new }
-    ensures reads { (T.view trees.new).reads ≤ (T.view trees.old).reads + (5 * (q - p) - 4) * levels (T.count false trees.old) (T.count true trees.old) }
+    ensures reads { (T.view trees.new).reads ≤ (T.view trees.old).reads + (5 * (q - p) - 4) * levels (T.count false trees.old)
+        (T.count true trees.old) }
     ensures cause { IfErr result (T.causes trees.old trees.new) }
     ensures quiet { OnOk result ((T.view trees.new).faults ≡ (T.view trees.old).faults) }
     ensures quiet_err { IfErr result (λ e. e ≢ NodeError.DiskFault → (T.view trees.new).faults ≡ (T.view trees.old).faults) }
@@ -252,7 +258,8 @@ pub fn best_sum<T: TwoTrees>(
     ensures best { (xs ys sums : List (Option ℤ)) → T.are trees.old xs ys → AreSums sum xs ys sums → IfOk result (IsBestOf best sums p q) }
     ensures fit { (T.view trees.new).fit }
     ensures goes { T.goes trees.old trees.new }
-    ensures reads { (T.view trees.new).reads ≤ (T.view trees.old).reads + best_reads (q - p) (levels (T.count false trees.old) (T.count true trees.old)) }
+    ensures reads { (T.view trees.new).reads ≤ (T.view trees.old).reads + best_reads (q - p)
+        (levels (T.count false trees.old) (T.count true trees.old)) }
     ensures cause { IfErr result (T.causes trees.old trees.new) }
     ensures quiet { OnOk result ((T.view trees.new).faults ≡ (T.view trees.old).faults) }
     ensures quiet_err { IfErr result (λ e. e ≢ NodeError.DiskFault → (T.view trees.new).faults ≡ (T.view trees.old).faults) }

@@ -1,5 +1,6 @@
 //! The values of a few slots in a row, read by one walk.
-ghost use Rattle.std.specs.Prelude.{◌≡◌, ◌≢◌, ℤ, true, false, ◌+◌, ◌^◌, ◌*◌, ◌<◌, ◌≤◌, ◌≤ℤ◌, ◌<ℤ◌, ◌+ℤ◌, pos, List, Option, Some, IfErr, OnOk, ℕ, length, unsigned_abs};
+ghost use Rattle.std.specs.Prelude.{◌≡◌, ◌≢◌, ℤ, true, false, ◌+◌, ◌^◌, ◌*◌, ◌<◌, ◌≤◌, ◌≤ℤ◌, ◌<ℤ◌, ◌+ℤ◌, pos, List, Option, Some, IfErr};
+ghost use Rattle.std.specs.Prelude.{OnOk, ℕ, length, unsigned_abs};
 ghost use Rattle.om3_coeff.specs.Keys.{end_slot, height};
 ghost use Rattle.om3_coeff.specs.View.{Agrees, HasCause, MayAsk};
 ghost use Rattle.om3_coeff.specs.Walks.{IsReached, StaysBelow};
@@ -63,13 +64,15 @@ fn read_below<N: Nodes>(
     requires few { count ≤ 128 }
     requires base { unsigned_abs base.now ≤ 5 * 10 ^ 18 }
     requires room { count ≤ length slots.old }
-    ensures list { (list : List (Option ℤ)) → Agrees (N.view nodes.old) list → AreReadBefore list base.now count key slots.old → OnOk result (AreReadThrough list base.now count key slots.new) }
+    ensures list { (list : List (Option ℤ)) → Agrees (N.view nodes.old) list → AreReadBefore list base.now count key slots.old
+        → OnOk result (AreReadThrough list base.now count key slots.new) }
     ensures values { HasValues slots.old → HasValues slots.new }
     ensures room { length slots.new ≡ length slots.old }
     ensures fit { (N.view nodes.new).fit }
     ensures kept { N.keeps nodes.old nodes.new }
     ensures below { OnOk result (StaysBelow key (N.view nodes.old).asked (N.view nodes.new).asked) }
-    ensures reads { (from : ℕ) → StartsAt base.now from → (N.view nodes.new).reads ≤ (N.view nodes.old).reads + key.level * slots_in from count key }
+    ensures reads { (from : ℕ) → StartsAt base.now from
+        → (N.view nodes.new).reads ≤ (N.view nodes.old).reads + key.level * slots_in from count key }
     ensures faults { (N.view nodes.old).faults ≤ (N.view nodes.new).faults }
     ensures cause { IfErr result (HasCause (N.view nodes.old) (N.view nodes.new)) }
     ensures quiet { OnOk result ((N.view nodes.new).faults ≡ (N.view nodes.old).faults) }
@@ -105,7 +108,8 @@ pub(crate) fn read_slots<T: TwoTrees>(
     requires base { unsigned_abs base.now ≤ 5 * 10 ^ 18 }
     requires room { count ≤ length slots.old }
     requires empty { IsEmpty slots.old }
-    ensures list { (xs ys : List (Option ℤ)) → T.are trees.old xs ys → OnOk result (AreRead (one_of second xs ys) base.now count slots.new) }
+    ensures list { (xs ys : List (Option ℤ)) → T.are trees.old xs ys
+        → OnOk result (AreRead (one_of second xs ys) base.now count slots.new) }
     ensures values { HasValues slots.new }
     ensures room { length slots.new ≡ length slots.old }
     ensures fit { (T.view trees.new).fit }

@@ -53,7 +53,9 @@ pub trait TwoTrees: Nodes {
     ghost counts: { (at : Self) → (Self.view at).slots ≡ count (asks_second at) at };
 
     /// An error of an ask has its cause, and steps before it that count no fault leave that.
-    ghost asks_cause: { (old new : Self) (error : NodeError) → Self.keeps old new → HasCause (Self.view old) (Self.view new) error → causes old new error };
+    ghost asks_cause: { (old new : Self) (error : NodeError) → Self.keeps old new → HasCause (Self.view old) (Self.view new) error
+        → causes old new error };
 
-    ghost causes_behind: { (old between new : Self) (error : NodeError) → goes old between → (Self.view between).faults ≡ (Self.view old).faults → causes between new error → causes old new error };
+    ghost causes_behind: { (old between new : Self) (error : NodeError) → goes old between
+        → (Self.view between).faults ≡ (Self.view old).faults → causes between new error → causes old new error };
 }

@@ -27,8 +27,10 @@ odd_stands total book stands =
 
 -- If all pages that a crash may leave have a property, and those that have it stand for a book, then the journal of each
 -- image that it may leave can be read, and its pages have the property: where no journal can be read they might be any.
-module _ (count : ℕ) (crash : Image → Type 0) (Q : Image → Type 0) (total_of : (pages : Image) → Q pages → ℕ) (book_of : (pages : Image) → Q pages → List Series)
-    (stand : (pages : Image) (is : Q pages) → StandsForBook pages (total_of pages is) (book_of pages is)) (all : (pages : Image) → PagesOf count crash pages → Q pages) (image : Image) (left : crash image) where
+module _ (count : ℕ) (crash : Image → Type 0) (Q : Image → Type 0) (total_of : (pages : Image) → Q pages → ℕ) (book_of : (pages : Image)
+    → Q pages → List Series)
+    (stand : (pages : Image) (is : Q pages) → StandsForBook pages (total_of pages is) (book_of pages is)) (all : (pages : Image)
+    → PagesOf count crash pages → Q pages) (image : Image) (left : crash image) where
   pub lowered_readable : IsReadable count image
   lowered_readable broken =
       let is : Q odd = all odd (record { from = image; was = left; same = λ readable. absurd (readable broken) }) in
@@ -38,11 +40,13 @@ module _ (count : ℕ) (crash : Image → Type 0) (Q : Image → Type 0) (total_
   lowered_is = all (pages_of count image) (record { from = image; was = left; same = λ readable. refl })
 
 -- a disk at rest holds the book for which its pages stand
-pub holds_closed : (count total : ℕ) (book : List Series) (disk : View) → IsClosed disk → Honest disk → total ≤ count → StandsForBook (pages_of count disk.image) total book → HoldsBook count total book disk
+pub holds_closed : (count total : ℕ) (book : List Series) (disk : View) → IsClosed disk → Honest disk → total ≤ count
+    → StandsForBook (pages_of count disk.image) total book → HoldsBook count total book disk
 holds_closed count total book disk closed honest within stands = record {
   honest = honest;
   images = λ image left.
-      let here : RecoversTo count disk.image total book = recovers_new count disk.image total book (closed_readable count disk.image (closed.gate honest)) within stands in
+      let here : RecoversTo count disk.image total book = recovers_new count disk.image total book
+      (closed_readable count disk.image (closed.gate honest)) within stands in
       let P : Image → Type 0 = λ i. RecoversTo count i total book in
       subst P (sym (closed.only image left)) here;
 }

@@ -1,5 +1,6 @@
 -- What becomes of a disk whose store is opened.
-use Rattle.std.proofs.Common.{◌≡◌, ℕ, ◌+◌, ◌≤◌, ◌<◌, ◌⊎◌, Bool, List, ◌∷◌, ◌++◌, length, length-append, refl, sym, ap, subst, arith, inl, inr, ◌∙◌}
+use Rattle.std.proofs.Common.{◌≡◌, ℕ, ◌+◌, ◌≤◌, ◌<◌, ◌⊎◌, Bool, List, ◌∷◌, ◌++◌, length, length-append, refl, sym, ap, subst, arith, inl}
+use Rattle.std.proofs.Common.{inr, ◌∙◌}
 use Rattle.std.proofs.lemmas.Bool.{cases_Bool, cases_lt}
 use Rattle.block_disk.specs.Counts.{HasRisen}
 use Rattle.block_disk.specs.View.{Image, View, Now, Honest, Passes, Moves, Nowhere, sent_now}
@@ -30,14 +31,16 @@ use Rattle.stored_book.specs.Standing.{StandsForBook, book_pages, RecoversTo}
 use Rattle.stored_book.proofs.CurrentLemmas.{recovers_new}
 use Rattle.empty_store.proofs.DisksMade.{sent_so}
 use Rattle.disk_store.specs.Held.{HoldsBook}
-use Rattle.disk_store.specs.Openings.{IsCurrent, Opens, Prevents, SyncsOpening, WritesFew, IsLeftOpening, StandsOrUpgraded, IsDamagedBlock, IsOpeningPlace, IsOutside, cause_of, upgrade_cause_of, store_cause_of}
+use Rattle.disk_store.specs.Openings.{IsCurrent, Opens, Prevents, SyncsOpening, WritesFew, IsLeftOpening, StandsOrUpgraded, IsDamagedBlock}
+use Rattle.disk_store.specs.Openings.{IsOpeningPlace, IsOutside, cause_of, upgrade_cause_of, store_cause_of}
 
 -- Calls so far leave pages from before, or those in version 2.
 abbrev LeavesOpening : ℕ → View → View → Type 0
 LeavesOpening count old new = Passes old new (IsLeftOpening count old) (Quiet old)
 
 -- the images of the moments so far
-pub left_opening : (count : ℕ) (old mid : View) → LeavesOpening count old mid → (at : ℕ) (image : Image) → old.clock ≤ at → at ≤ mid.clock → mid.crash at image → IsLeftOpening count old image
+pub left_opening : (count : ℕ) (old mid : View) → LeavesOpening count old mid → (at : ℕ) (image : Image) → old.clock ≤ at → at ≤ mid.clock
+    → mid.crash at image → IsLeftOpening count old image
 left_opening count old mid passes at image low high left = elim (cases_lt old.clock at) [
   | inl moved ↦ passes.here at image moved high left
   | inr stands ↦
@@ -53,17 +56,20 @@ opens_goes count old new opens = goes_by old new (IsLeftOpening count old) (Quie
 pub opens_quiet : (count : ℕ) (old new : View) → Opens count old new → sent_now new ≡ sent_now old
 opens_quiet count old new opens = sent_same old new (IsLeftOpening count old) opens.time
 
-pub opens_sent : (count : ℕ) (old new : View) → Opens count old new → (at : ℕ) → old.clock ≤ at → at ≤ new.clock → new.sent_by at ≡ sent_now old
+pub opens_sent : (count : ℕ) (old new : View) → Opens count old new → (at : ℕ) → old.clock ≤ at → at ≤ new.clock
+    → new.sent_by at ≡ sent_now old
 opens_sent count old new opens = sent_so old new (IsLeftOpening count old) opens.time
 
 -- the pages were opened
 opened_time : (count : ℕ) (old new : View) → Passes old new (StandsAsBefore count old) (Quiet old) → LeavesOpening count old new
 opened_time count old new passes =
     passes_weaker old new (StandsAsBefore count old) (IsLeftOpening count old) (Quiet old) (Quiet old)
-    (λ image stands honest. record { from = stands.from; was = stands.was; pages = inl stands.same; readable = stands.readable }) (λ sent quiet. quiet) passes
+    (λ image stands honest. record { from = stands.from; was = stands.was; pages = inl stands.same; readable = stands.readable })
+    (λ sent quiet. quiet) passes
 
 -- what only looks behind an opening syncs and writes no more
-pub few_then : (count : ℕ) (old mid new : View) → WritesFew count old mid → new.syncs ≡ mid.syncs → new.writes ≡ mid.writes → WritesFew count old new
+pub few_then : (count : ℕ) (old mid new : View) → WritesFew count old mid → new.syncs ≡ mid.syncs → new.writes ≡ mid.writes
+    → WritesFew count old new
 few_then count old mid new few syncs writes = record {
   syncs = record { low = omega (arith, few.syncs.low, syncs); high = omega (arith, few.syncs.high, syncs) };
   writes = record { low = omega (arith, few.writes.low, writes); high = omega (arith, few.writes.high, writes) };
@@ -90,7 +96,8 @@ few_pages count old new moves shut = record {
 }
 
 -- and no more
-pub opens_pages : (count : ℕ) (old new : View) → Passes old new (StandsAsBefore count old) (Quiet old) → Moves Anywhere 66 3 65 old new → KeepsShut old new → Opens count old new
+pub opens_pages : (count : ℕ) (old new : View) → Passes old new (StandsAsBefore count old) (Quiet old) → Moves Anywhere 66 3 65 old new
+    → KeepsShut old new → Opens count old new
 opens_pages count old new passes moves shut = record {
   time = opened_time count old new passes;
   honest = moves.honest;
@@ -102,7 +109,8 @@ opens_pages count old new passes moves shut = record {
 }
 
 -- more calls
-more_time : (count : ℕ) (old mid new : View) → LeavesOpening count old mid → GoesOn mid new → ((at : ℕ) (image : Image) → mid.clock < at → at ≤ new.clock → new.crash at image → IsLeftOpening count old image)
+more_time : (count : ℕ) (old mid new : View) → LeavesOpening count old mid → GoesOn mid new
+    → ((at : ℕ) (image : Image) → mid.clock < at → at ≤ new.clock → new.crash at image → IsLeftOpening count old image)
     → ((at : ℕ) → mid.clock < at → at ≤ new.clock → new.sent_by at ≡ sent_now mid) → LeavesOpening count old new
 more_time count old mid new so_far goes late quiet = record {
   later = omega (arith, so_far.later, goes.later);
@@ -126,7 +134,8 @@ longer_too : (one other : List ℕ) → (1 ∷ (one ++ other) ≡ other) → ⊥
 longer_too one other same = omega (arith, ap length same, length-append one other)
 
 -- The journal of an image that may be left can be read, where its pages are one of two: else they might be any.
-module _ (count : ℕ) (crash : Image → Type 0) (one other : Image) (at_each : (pages : Image) → PagesOf count crash pages → (pages ≡ one) ⊎ (pages ≡ other)) (image : Image) (left : crash image) where
+module _ (count : ℕ) (crash : Image → Type 0) (one other : Image) (at_each : (pages : Image) → PagesOf count crash pages → (pages ≡ one)
+    ⊎ (pages ≡ other)) (image : Image) (left : crash image) where
   either_readable : IsReadable count image
   either_readable broken =
       let odd : Image = λ page. 1 ∷ (one page ++ other page) in
@@ -147,47 +156,59 @@ current_either pages kept = elim (cases_Bool (has_old_magic (pages 0))) [
 ]
 
 -- pages at rest are brought to version 2
-module _ (count : ℕ) (sound sound' : Bool) (old mid near : View) (so_far : LeavesOpening count old mid) (honest : Honest old → Honest mid) (same : Honest old → pages_of count mid.image ≡ pages_of count old.image)
-    (time : Passes (pages_view count sound mid) (pages_view count sound' near) (λ pages. Honest mid → BeforeOrUpgraded (pages_of count mid.image) pages) (Quiet (pages_view count sound mid))) (goes : GoesOn mid near) where
+module _ (count : ℕ) (sound sound' : Bool) (old mid near : View) (so_far : LeavesOpening count old mid) (honest : Honest old
+    → Honest mid) (same : Honest old → pages_of count mid.image ≡ pages_of count old.image)
+    (time : Passes (pages_view count sound mid) (pages_view count sound' near) (λ pages. Honest mid
+    → BeforeOrUpgraded (pages_of count mid.image) pages) (Quiet (pages_view count sound mid))) (goes : GoesOn mid near) where
   late_upgraded : (at : ℕ) (image : Image) → mid.clock < at → at ≤ near.clock → near.crash at image → IsLeftOpening count old image
   late_upgraded at image low high left = λ is.
       let base = pages_of count mid.image in
-      let each : (pages : Image) → PagesOf count (near.crash at) pages → BeforeOrUpgraded base pages = λ pages found. time.here at pages low high found (honest is) in
+      let each : (pages : Image) → PagesOf count (near.crash at) pages
+      → BeforeOrUpgraded base pages = λ pages found. time.here at pages low high found (honest is) in
       let here : PagesOf count (near.crash at) (pages_of count image) = record { from = image; was = left; same = λ readable. refl } in
       let B : Image → Type 0 = λ before. BeforeOrUpgraded before (pages_of count image) in
       record {
         from = old.image;
         was = is;
         pages = subst B (same is) (each (pages_of count image) here);
-        readable = λ any. either_readable count (near.crash at) base (upgraded base) (λ pages found. one_of_two base pages (each pages found)) image left;
+        readable = λ any. either_readable count (near.crash at) base (upgraded base)
+            (λ pages found. one_of_two base pages (each pages found)) image left;
       }
 
   upgraded_time : LeavesOpening count old near
   upgraded_time = more_time count old mid near so_far goes late_upgraded time.sent_here
 
 -- and then read
-module _ (count : ℕ) (sound sound' : Bool) (old near new : View) (so_far : LeavesOpening count old near) (closed : IsClosed near) (same : Honest old → pages_of count near.image ≡ current (pages_of count old.image))
+module _ (count : ℕ) (sound sound' : Bool) (old near new : View) (so_far : LeavesOpening count old near) (closed : IsClosed near)
+    (same : Honest old → pages_of count near.image ≡ current (pages_of count old.image))
     (kept : Honest old → HasOldMagic (pages_of count old.image 0) → IsOldStore (pages_of count old.image))
-    (time : Passes (pages_view count sound near) (pages_view count sound' new) (PagesOf count (Now near)) (Quiet (pages_view count sound near))) (goes : GoesOn near new) where
+    (time : Passes (pages_view count sound near) (pages_view count sound' new) (PagesOf count (Now near))
+    (Quiet (pages_view count sound near))) (goes : GoesOn near new) where
   late_read : (at : ℕ) (image : Image) → near.clock < at → at ≤ new.clock → new.crash at image → IsLeftOpening count old image
   late_read at image low high left = λ is.
-      let at_each : (pages : Image) → PagesOf count (new.crash at) pages → pages ≡ pages_of count near.image = λ pages found. gate_rests count near closed pages (time.here at pages low high found) in
+      let at_each : (pages : Image) → PagesOf count (new.crash at) pages
+      → pages ≡ pages_of count near.image = λ pages found. gate_rests count near closed pages (time.here at pages low high found) in
       let here : PagesOf count (new.crash at) (pages_of count image) = record { from = image; was = left; same = λ readable. refl } in
       let B : Image → Type 0 = λ pages. BeforeOrUpgraded (pages_of count old.image) pages in
       record {
         from = old.image;
         was = is;
         pages = subst B (sym (at_each (pages_of count image) here ∙ same is)) (current_either (pages_of count old.image) (kept is));
-        readable = λ any. either_readable count (new.crash at) (pages_of count near.image) (pages_of count near.image) (λ pages found. inl (at_each pages found)) image left;
+        readable = λ any. either_readable count (new.crash at) (pages_of count near.image) (pages_of count near.image)
+            (λ pages found. inl (at_each pages found)) image left;
       }
 
   read_time : LeavesOpening count old new
   read_time = more_time count old near new so_far goes late_read time.sent_here
 
 -- An opening, and the pages brought to version 2, where the pages know how many they are.
-module _ (n count count' : ℕ) (sound sound' : Bool) (old mid near : View) (counted : count ≡ n) (passes : Passes old mid (StandsAsBefore n old) (Quiet old)) (moves : Moves Anywhere 66 3 65 old mid)
-    (same : Honest old → pages_of count mid.image ≡ pages_of count old.image) (upgrades : Upgrades (Honest mid) (Honest near) (pages_view count sound mid) (pages_view count' sound' near)) (goes : GoesOn mid near)
-    (shut : KeepsShut old mid) (left_alone : Honest mid → IsCurrent count mid → Reads (Honest mid) (Honest near) (pages_view count sound mid) (pages_view count' sound' near)) where
+module _ (n count count' : ℕ) (sound sound' : Bool) (old mid near : View) (counted : count ≡ n)
+    (passes : Passes old mid (StandsAsBefore n old) (Quiet old)) (moves : Moves Anywhere 66 3 65 old mid)
+    (same : Honest old → pages_of count mid.image ≡ pages_of count old.image)
+    (upgrades : Upgrades (Honest mid) (Honest near) (pages_view count sound mid) (pages_view count' sound' near))
+    (goes : GoesOn mid near)
+    (shut : KeepsShut old mid) (left_alone : Honest mid → IsCurrent count mid
+    → Reads (Honest mid) (Honest near) (pages_view count sound mid) (pages_view count' sound' near)) where
   counted_near : count' ≡ n
   counted_near = upgrades.size ∙ counted
 
@@ -196,9 +217,12 @@ module _ (n count count' : ℕ) (sound sound' : Bool) (old mid near : View) (cou
 
   time_near : LeavesOpening n old near
   time_near =
-      let P : ℕ → Type 0 = λ m. Passes (pages_view count sound mid) (pages_view m sound' near) (λ pages. Honest mid → BeforeOrUpgraded (pages_of count mid.image) pages) (Quiet (pages_view count sound mid)) in
-      let Q : ℕ → Type 0 = λ m. Passes (pages_view m sound mid) (pages_view m sound' near) (λ pages. Honest mid → BeforeOrUpgraded (pages_of m mid.image) pages) (Quiet (pages_view m sound mid)) in
-      upgraded_time n sound sound' old mid near (opened_time n old mid passes) moves.honest same_mid (subst Q counted (subst P upgrades.size upgrades.time)) goes
+      let P : ℕ → Type 0 = λ m. Passes (pages_view count sound mid) (pages_view m sound' near) (λ pages. Honest mid
+      → BeforeOrUpgraded (pages_of count mid.image) pages) (Quiet (pages_view count sound mid)) in
+      let Q : ℕ → Type 0 = λ m. Passes (pages_view m sound mid) (pages_view m sound' near) (λ pages. Honest mid
+      → BeforeOrUpgraded (pages_of m mid.image) pages) (Quiet (pages_view m sound mid)) in
+      upgraded_time n sound sound' old mid near (opened_time n old mid passes) moves.honest same_mid
+      (subst Q counted (subst P upgrades.size upgrades.time)) goes
 
   -- pages that aren't of version 1 are only read
   read_alone : Honest old → IsCurrent n old → Reads (Honest mid) (Honest near) (pages_view count sound mid) (pages_view count' sound' near)
@@ -209,8 +233,14 @@ module _ (n count count' : ℕ) (sound sound' : Bool) (old mid near : View) (cou
 
   few_upgraded : WritesFew n old near
   few_upgraded = record {
-    syncs = record { low = omega (arith, moves.syncs.low, upgrades.syncs.low); high = omega (arith, moves.syncs.high, upgrades.syncs.high) };
-    writes = record { low = omega (arith, moves.writes.low, upgrades.writes.low); high = omega (arith, moves.writes.high, upgrades.writes.high) };
+    syncs = record {
+      low = omega (arith, moves.syncs.low, upgrades.syncs.low);
+      high = omega (arith, moves.syncs.high, upgrades.syncs.high);
+    };
+    writes = record {
+      low = omega (arith, moves.writes.low, upgrades.writes.low);
+      high = omega (arith, moves.writes.high, upgrades.writes.high);
+    };
     current = λ honest current. omega (arith, moves.syncs.high, (read_alone honest current).syncs);
     unwritten = λ closed current. (read_alone closed.honest current).writes ∙ none_written old mid (shut closed);
   }
@@ -222,7 +252,10 @@ module _ (n count count' : ℕ) (sound sound' : Bool) (old mid near : View) (cou
     was_honest = λ honest. moves.was_honest (upgrades.was_told honest);
     beside_is = upgrades.beside ∙ moves.beside;
     faults = omega (arith, moves.faults, upgrades.faults);
-    reads = record { low = omega (arith, moves.reads.low, upgrades.reads.low); high = omega (arith, moves.reads.high, upgrades.reads.high) };
+    reads = record {
+      low = omega (arith, moves.reads.low, upgrades.reads.low);
+      high = omega (arith, moves.reads.high, upgrades.reads.high);
+    };
     few = few_upgraded;
   }
 
@@ -233,53 +266,73 @@ module _ (n count count' : ℕ) (sound sound' : Bool) (old mid near : View) (cou
         let S : ℕ → Type 0 = λ m. pages_of count mid.image ≡ pages_of m old.image in
         done (moves.honest honest) ∙ ap (λ (pages : Image). current pages) (subst S (sym upgrades.size) (same honest))
 
-    module _ (kept : Honest mid → HasOldMagic (pages_of count mid.image 0) → IsOldStore (pages_of count mid.image)) (closed : IsClosed near) where
+    module _ (kept : Honest mid → HasOldMagic (pages_of count mid.image 0)
+        → IsOldStore (pages_of count mid.image)) (closed : IsClosed near) where
       kept_old : Honest old → HasOldMagic (pages_of n old.image 0) → IsOldStore (pages_of n old.image)
       kept_old honest =
           let K : Image → Type 0 = λ pages. HasOldMagic (pages 0) → IsOldStore pages in
           let N : ℕ → Type 0 = λ m. K (pages_of m old.image) in
           subst N counted (subst K (same honest) (kept (moves.honest honest)))
 
-      pub opens_read : (count'' : ℕ) (sound'' : Bool) (new : View) → ReadsMost 17 (Honest near) (Honest new) (pages_view count' sound' near) (pages_view count'' sound'' new) → GoesOn near new → Opens n old new
+      pub opens_read : (count'' : ℕ) (sound'' : Bool) (new : View)
+          → ReadsMost 17 (Honest near) (Honest new) (pages_view count' sound' near) (pages_view count'' sound'' new) → GoesOn near new
+          → Opens n old new
       opens_read count'' sound'' new reads goes_new =
-          let P : ℕ → Type 0 = λ m. Passes (pages_view count' sound' near) (pages_view m sound'' new) (PagesOf count' (Now near)) (Quiet (pages_view count' sound' near)) in
-          let Q : ℕ → Type 0 = λ m. Passes (pages_view m sound' near) (pages_view m sound'' new) (PagesOf m (Now near)) (Quiet (pages_view m sound' near)) in
+          let P : ℕ → Type 0 = λ m. Passes (pages_view count' sound' near) (pages_view m sound'' new) (PagesOf count' (Now near))
+          (Quiet (pages_view count' sound' near)) in
+          let Q : ℕ → Type 0 = λ m. Passes (pages_view m sound' near) (pages_view m sound'' new) (PagesOf m (Now near))
+          (Quiet (pages_view m sound' near)) in
           let S : ℕ → Type 0 = λ m. Honest old → pages_of m near.image ≡ current (pages_of m old.image) in
           record {
-            time = read_time n sound' sound'' old near new time_near closed (subst S counted_near same_near) kept_old (subst Q counted_near (subst P reads.size reads.time)) goes_new;
+            time = read_time n sound' sound'' old near new time_near closed (subst S counted_near same_near) kept_old
+                (subst Q counted_near (subst P reads.size reads.time)) goes_new;
             honest = λ honest. reads.told (upgrades.told (moves.honest honest));
             was_honest = λ honest. moves.was_honest (upgrades.was_told (reads.was_told honest));
             beside_is = reads.beside ∙ upgrades.beside ∙ moves.beside;
             faults = omega (arith, moves.faults, upgrades.faults, reads.faults);
-            reads = record { low = omega (arith, moves.reads.low, upgrades.reads.low, reads.reads.low); high = omega (arith, moves.reads.high, upgrades.reads.high, reads.reads.high) };
+            reads = record {
+              low = omega (arith, moves.reads.low, upgrades.reads.low, reads.reads.low);
+              high = omega (arith, moves.reads.high, upgrades.reads.high, reads.reads.high);
+            };
             few = few_then n old near new few_upgraded reads.syncs reads.writes;
           }
 
 -- an image that stands for pages from before, or for those in version 2, recovers to their book
-pub stands_on : (count total : ℕ) (book : List Series) (old : View) (image : Image) → ((from : Image) → Now old from → RecoversTo count from total book) → StandsOrUpgraded count old image → RecoversTo count image total book
+pub stands_on : (count total : ℕ) (book : List Series) (old : View) (image : Image)
+    → ((from : Image) → Now old from → RecoversTo count from total book) → StandsOrUpgraded count old image
+    → RecoversTo count image total book
 stands_on count total book old image all stands =
     let was = all stands.from stands.was in
     elim stands.pages [
       | inl same ↦
           let P : Image → Type 0 = λ pages. StandsForBook (current pages) total book in
           let K : Image → Type 0 = λ pages. HasOldMagic (pages 0) → IsOldStore pages in
-          record { readable = stands.readable was.readable; within = was.within; old = subst K (sym same) was.old; stands = subst P (sym same) was.stands }
+          record {
+            readable = stands.readable was.readable;
+            within = was.within;
+            old = subst K (sym same) was.old;
+            stands = subst P (sym same) was.stands;
+          }
       | inr is ↦
           let P : Image → Type 0 = λ pages. StandsForBook pages total book in
-          recovers_new count image total book (stands.readable was.readable) was.within (subst P (current_upgraded (pages_of count stands.from) is.0.magic ∙ sym is.1) was.stands)
+          recovers_new count image total book (stands.readable was.readable) was.within
+          (subst P (current_upgraded (pages_of count stands.from) is.0.magic ∙ sym is.1) was.stands)
     ]
 
-pub holds_moments : (count total : ℕ) (book : List Series) (old new : View) → HoldsBook count total book old → Opens count old new → Passes old new (λ image. RecoversTo count image total book) (Quiet old)
+pub holds_moments : (count total : ℕ) (book : List Series) (old new : View) → HoldsBook count total book old → Opens count old new
+    → Passes old new (λ image. RecoversTo count image total book) (Quiet old)
 holds_moments count total book old new holds opens =
     passes_weaker old new (IsLeftOpening count old) (λ image. RecoversTo count image total book) (Quiet old) (Quiet old)
     (λ image stands. stands_on count total book old image holds.images (stands holds.honest)) (λ sent quiet. quiet) opens.time
 
 -- what is left at each moment of an opening recovers to the book that the disk holds
-pub opens_recover : (count total : ℕ) (book : List Series) (old new : View) → HoldsBook count total book old → Opens count old new → (at : ℕ) (image : Image) → old.clock ≤ at → at ≤ new.clock → new.crash at image → RecoversTo count image total book
+pub opens_recover : (count total : ℕ) (book : List Series) (old new : View) → HoldsBook count total book old → Opens count old new
+    → (at : ℕ) (image : Image) → old.clock ≤ at → at ≤ new.clock → new.crash at image → RecoversTo count image total book
 opens_recover count total book old new holds opens at image low high left =
     stands_on count total book old image holds.images (left_opening count old new opens.time at image low high left holds.honest)
 
-pub holds_on : (count total : ℕ) (book : List Series) (old new : View) → HoldsBook count total book old → Opens count old new → HoldsBook count total book new
+pub holds_on : (count total : ℕ) (book : List Series) (old new : View) → HoldsBook count total book old → Opens count old new
+    → HoldsBook count total book new
 holds_on count total book old new holds opens = record {
   honest = opens.honest holds.honest;
   images = λ image left. opens_recover count total book old new holds opens new.clock image opens.time.later (omega arith) left;
@@ -296,33 +349,58 @@ risen_before old mid new same (inl risen) = inl (omega (arith, same, risen))
 risen_before old mid new same (inr last) = inr (omega (arith, same, last.0), last.1 ∙ same)
 
 -- why no store was opened on the pages
-pub store_prevents : (cause : StoreError) (n count count' : ℕ) (sound sound' : Bool) (old mid new : View) → count ≡ n → n ≡ page_count old.size → 128 ≤ old.size → (Honest old → Honest mid) → (Honest old → pages_of count mid.image ≡ book_pages count old.image) → mid.faults ≡ old.faults → IsFirstPage cause
+pub store_prevents : (cause : StoreError) (n count count' : ℕ) (sound sound' : Bool) (old mid new : View) → count ≡ n
+    → n ≡ page_count old.size → 128 ≤ old.size → (Honest old → Honest mid)
+    → (Honest old → pages_of count mid.image ≡ book_pages count old.image) → mid.faults ≡ old.faults → IsFirstPage cause
     → IsOpenCause cause (Honest mid) (pages_view count sound mid) (pages_view count' sound' new) → Prevents (store_cause_of cause) old new
 store_prevents (of_store.Refused refusal) n count count' sound sound' old mid new counted is_n large honest same faults first is = tt
 store_prevents of_store.NotAStore n count count' sound sound' old mid new counted is_n large honest same faults first is =
     let P : ℕ → Type 0 = λ m. IsDamagedBlock m old.image 66 in
-    let M : Image → Type 0 = λ pages. HasMagic (pages 0) in
-    (large, (inr (omega arith, omega arith), λ h. subst P (counted ∙ is_n) (inr (inl (refl, λ magic. is (honest h) (subst M (sym (same h)) magic))))))
-store_prevents of_store.DiskFault n count count' sound sound' old mid new counted is_n large honest same faults first is = risen_before old.faults mid.faults new.faults faults is
+    let M : Image → Type 0 = λ pages. HasMagic (pages 0) in (
+      large,
+      (
+        inr (omega arith, omega arith),
+        λ h. subst P (counted
+            ∙ is_n) (inr (inl (refl, λ magic. is (honest h) (subst M (sym (same h)) magic)))),
+      ),
+    )
+store_prevents of_store.DiskFault n count count' sound sound' old mid new counted is_n large honest same faults first is = risen_before
+    old.faults mid.faults new.faults faults is
 store_prevents (of_store.Damaged page) n count count' sound sound' old mid new counted is_n large honest same faults first is =
     let P : ℕ → Type 0 = λ m. IsDamagedBlock m old.image (66 + page) in
-    let B : Image → Type 0 = λ pages. IsBrokenPage count pages page in
-    (large, (inr (omega arith, omega (arith, first)), λ h. subst P (counted ∙ is_n) (inr (inr (inl (page, refl, subst B (same h) (is (honest h))))))))
+    let B : Image → Type 0 = λ pages. IsBrokenPage count pages page in (
+      large,
+      (
+        inr (omega arith, omega (arith, first)),
+        λ h. subst P (counted ∙ is_n) (inr (inr (inl (page, refl, subst B (same h) (is (honest h)))))),
+      ),
+    )
 store_prevents of_store.NoMemory n count count' sound sound' old mid new counted is_n large honest same faults first is = tt
 
 -- why the pages weren't brought to version 2
-pub upgrade_prevents : (cause : UpgradeError) (n count count' : ℕ) (sound sound' : Bool) (old mid new : View) → count ≡ n → n ≡ page_count old.size → 128 ≤ old.size → (Honest old → Honest mid) → (Honest old → pages_of count mid.image ≡ pages_of count old.image) → mid.faults ≡ old.faults → IsPlace cause
-    → of_upgrades.Prevents cause (Honest mid) (pages_view count sound mid) (pages_view count' sound' new) → Prevents (upgrade_cause_of cause) old new
+pub upgrade_prevents : (cause : UpgradeError) (n count count' : ℕ) (sound sound' : Bool) (old mid new : View) → count ≡ n
+    → n ≡ page_count old.size → 128 ≤ old.size → (Honest old → Honest mid)
+    → (Honest old → pages_of count mid.image ≡ pages_of count old.image) → mid.faults ≡ old.faults → IsPlace cause
+    → of_upgrades.Prevents cause (Honest mid) (pages_view count sound mid) (pages_view count' sound' new)
+    → Prevents (upgrade_cause_of cause) old new
 upgrade_prevents (of_upgrade.Damaged page) n count count' sound sound' old mid new counted is_n large honest same faults place is =
     let P : ℕ → Type 0 = λ m. IsDamagedBlock m old.image (66 + page) in
-    let B : Image → Type 0 = λ pages. IsFirstBroken pages page in
-    (large, (inr (omega arith, omega (arith, place.1)), λ h. subst P (counted ∙ is_n) (inr (inr (inr (page, refl, subst B (same h) (is (honest h))))))))
-upgrade_prevents of_upgrade.DiskFault n count count' sound sound' old mid new counted is_n large honest same faults place is = risen_before old.faults mid.faults new.faults faults is
+    let B : Image → Type 0 = λ pages. IsFirstBroken pages page in (
+      large,
+      (
+        inr (omega arith, omega (arith, place.1)),
+        λ h. subst P (counted ∙ is_n) (inr (inr (inr (page, refl, subst B (same h) (is (honest h)))))),
+      ),
+    )
+upgrade_prevents of_upgrade.DiskFault n count count' sound sound' old mid new counted is_n large honest same faults place is = risen_before
+    old.faults mid.faults new.faults faults is
 upgrade_prevents of_upgrade.NoMemory n count count' sound sound' old mid new counted is_n large honest same faults place is = tt
 
 -- a disk that stands for a book has no page that breaks the rules of version 1
-pub upgrade_outside : (cause : UpgradeError) (count count' total : ℕ) (book : List Series) (sound sound' : Bool) (old mid new : View) → Honest mid → pages_of count mid.image ≡ pages_of count old.image → RecoversTo count old.image total book
-    → of_upgrades.Prevents cause (Honest mid) (pages_view count sound mid) (pages_view count' sound' new) → IsOutside (upgrade_cause_of cause)
+pub upgrade_outside : (cause : UpgradeError) (count count' total : ℕ) (book : List Series) (sound sound' : Bool) (old mid new : View)
+    → Honest mid → pages_of count mid.image ≡ pages_of count old.image → RecoversTo count old.image total book
+    → of_upgrades.Prevents cause (Honest mid) (pages_view count sound mid) (pages_view count' sound' new)
+    → IsOutside (upgrade_cause_of cause)
 upgrade_outside (of_upgrade.Damaged page) count count' total book sound sound' old mid new honest same recovers is =
     let B : Image → Type 0 = λ pages. IsFirstBroken pages page in
     let broken : IsFirstBroken (pages_of count old.image) page = subst B same (is honest) in

@@ -26,7 +26,8 @@ use Rattle.disk_store.specs.declared.causes.OpeningCause.{OpeningCause}
 use Rattle.disk_store.specs.declared.causes.OpeningCause.TheVariants.{TooSmall, Damaged, DiskFault, NoMemory}
 
 -- the disk, within a store or handed back
-abbrev pub disk_in : {D : Type 0} {disk : Ghosts D} {pages : pages_trait.Ghosts (GatePages D disk)} → Result (Store (GatePages D disk) pages) (Back D OpeningCause) → D
+abbrev pub disk_in : {D : Type 0} {disk : Ghosts D} {pages : pages_trait.Ghosts (GatePages D disk)}
+    → Result (Store (GatePages D disk) pages) (Back D OpeningCause) → D
 disk_in (Ok store) = disk_below store
 disk_in (Err back) = back.value
 

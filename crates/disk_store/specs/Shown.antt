@@ -19,7 +19,8 @@ disk_below store = gate.disk (shown.pages store)
 
 -- so of each book for which the image of a disk stands
 abbrev pub ForRecovered : View → (ℕ → List Series → Type 0) → Type 0
-ForRecovered disk IsSo = (total : ℕ) (book : List Series) → Honest disk → RecoversTo (page_count disk.size) disk.image total book → IsSo total book
+ForRecovered disk IsSo = (total : ℕ) (book : List Series) → Honest disk → RecoversTo (page_count disk.size) disk.image total book
+    → IsSo total book
 
 -- so of each book that it holds
 abbrev pub ForHeld : View → (ℕ → List Series → Type 0) → Type 0

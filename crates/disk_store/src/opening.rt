@@ -6,7 +6,8 @@ ghost use Rattle.stored_book.specs.Standing.{StandsForBook, book_pages};
 ghost use Rattle.disk_store.specs.Held.{HoldsBook};
 ghost use Rattle.disk_store.specs.Shown.{ForRecovered, ForHeld, RecoversOn};
 ghost use Rattle.series_store.specs.Shown as shown;
-ghost use Rattle.disk_store.specs.Openings.{disk_in, Opens, Prevents, IsOpeningPlace, IsOutside, cause_of, upgrade_cause_of, store_cause_of};
+ghost use Rattle.disk_store.specs.Openings.{disk_in, Opens, Prevents, IsOpeningPlace, IsOutside, cause_of, upgrade_cause_of};
+ghost use Rattle.disk_store.specs.Openings.{store_cause_of};
 
 use crate::causes::OpeningCause;
 use block_disk::{Back, Disk};
@@ -47,7 +48,8 @@ pub fn open_store<D: Disk>(
     ensures sound { IfOk result (λ store. shown.IsSound store) }
     ensures none { IfOk result (λ store. shown.SelectsNone store) }
     ensures count { IfOk result (λ store. (shown.view store).size ≡ page_count (D.view disk).size) }
-    ensures pages { IfOk result (λ store. Honest (D.view disk) → shown.image store ≡ book_pages (shown.view store).size (D.view disk).image) }
+    ensures pages { IfOk result (λ store. Honest (D.view disk)
+        → shown.image store ≡ book_pages (shown.view store).size (D.view disk).image) }
     ensures stands { ForHeld (D.view disk) (λ total book. IfOk result (λ store. StandsForBook (shown.image store) total book)) }
 {
     match GatePages::open(alloc, disk) {

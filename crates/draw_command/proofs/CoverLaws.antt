@@ -15,7 +15,8 @@ use Rattle.draw_command.specs.Covers.{AreFirstCovers, AgreesWith, LiesWithin, Is
 
 -- a later stage's cover lies within an earlier one's
 abbrev pub Later : Type 0
-Later = (view : ViewFrame) (holdings : List Holding) (i j : ℕ) (early : Stage view holdings i) (late : Stage view holdings j) (x : ℕ) (y : ℤ)
+Later = (view : ViewFrame) (holdings : List Holding) (i j : ℕ) (early : Stage view holdings i) (late : Stage view holdings j) (x : ℕ)
+    (y : ℤ)
     → FitsView view → i ≤ j → InCover (scene_by view late.grid late.told) x y → InCover (scene_by view early.grid early.told) x y
 
 -- and an accepted picture within each of them
@@ -28,19 +29,26 @@ Within = (s : Taking) (cover picture : Canvas) (new : List Holding) (drawn : Dra
 multiples : (i j every : ℕ) → i ≤ j → i * every ≤ j * every
 multiples i j every less = omega (arith, mul-le-mul_left {m = i} {n = j} every less, mul_comm i every, mul_comm j every)
 
-pub narrow : Later → (every : ℕ) (view : ViewFrame) (holdings : List Holding) (covers : List Canvas) (i j : ℕ) (early late : Canvas) → FitsView view → AreFirstCovers every view holdings covers
+pub narrow : Later → (every : ℕ) (view : ViewFrame) (holdings : List Holding) (covers : List Canvas) (i j : ℕ) (early late : Canvas)
+    → FitsView view → AreFirstCovers every view holdings covers
     → slice_get covers i ≡ Some early → slice_get covers j ≡ Some late → i ≤ j → LiesWithin view late early
 narrow later every view holdings covers i j early late fits first there here less = λ x y wide high black.
     let a : IsCoverAfter view holdings (i * every) early = first i early there in
     let b : IsCoverAfter view holdings (j * every) late = first j late here in
-    let in_late = (b.draws.cover.pixels x y (omega (arith, wide, b.draws.stage.grid_is.canvas.columns)) (omega (arith, high, b.draws.stage.grid_is.canvas.rows))).0 black in
-    let in_early = later view holdings (i * every) (j * every) a.draws.stage b.draws.stage x (pos y) fits (multiples i j every less) in_late in
-    (a.draws.cover.pixels x y (omega (arith, wide, a.draws.stage.grid_is.canvas.columns)) (omega (arith, high, a.draws.stage.grid_is.canvas.rows))).1 in_early
+    let in_late = (b.draws.cover.pixels x y (omega (arith, wide, b.draws.stage.grid_is.canvas.columns))
+    (omega (arith, high, b.draws.stage.grid_is.canvas.rows))).0 black in
+    let in_early = later view holdings (i * every) (j * every) a.draws.stage b.draws.stage x (pos y) fits
+    (multiples i j every less) in_late in
+    (a.draws.cover.pixels x y (omega (arith, wide, a.draws.stage.grid_is.canvas.columns))
+    (omega (arith, high, a.draws.stage.grid_is.canvas.rows))).1 in_early
 
-pub hold : Within → (every : ℕ) (view : ViewFrame) (holdings new : List Holding) (covers : List Canvas) (i : ℕ) (cover picture : Canvas) (list : List (Option ℤ)) → FitsView view
-    → AreFirstCovers every view holdings covers → slice_get covers i ≡ Some cover → Accepts (View view) (Some picture) holdings new → AgreesWith view holdings list → LiesWithin view picture cover
+pub hold : Within → (every : ℕ) (view : ViewFrame) (holdings new : List Holding) (covers : List Canvas) (i : ℕ) (cover picture : Canvas)
+    (list : List (Option ℤ)) → FitsView view
+    → AreFirstCovers every view holdings covers → slice_get covers i ≡ Some cover → Accepts (View view) (Some picture) holdings new
+    → AgreesWith view holdings list → LiesWithin view picture cover
 hold within every view holdings new covers i cover picture list fits first there accepts agrees = λ x y wide high black.
     let a : IsCoverAfter view holdings (i * every) cover = first i cover there in
     let stage = a.draws.stage in
-    let w = within (record { view = view; holdings = holdings; taken = i * every }) cover picture new a.draws list fits accepts (agrees stage.holding stage.grid stage.holding_is stage.grid_is) in
+    let w = within (record { view = view; holdings = holdings; taken = i * every }) cover picture new a.draws list fits accepts
+    (agrees stage.holding stage.grid stage.holding_is stage.grid_is) in
     w.within x y (omega (arith, wide, stage.grid_is.canvas.columns)) (omega (arith, high, stage.grid_is.canvas.rows)) black

@@ -63,7 +63,8 @@ SendsFrames every (frame ∷ frames) (drawing ∷ drawings) old new bytes =
 -- the list of slots agrees with a view's frame, and with what is held of its session
 abbrev pub AgreesWith : ViewFrame → List Holding → List (Option ℤ) → Type 0
 AgreesWith view holdings list =
-    (holding : Holding) (grid : Grid) → holding_of view.session holdings ≡ Some holding → IsGridOf view grid → Agrees view holding.cache grid list
+    (holding : Holding) (grid : Grid) → holding_of view.session holdings ≡ Some holding → IsGridOf view grid
+    → Agrees view holding.cache grid list
 
 -- of two drawings of a view, the first is black only where the second is
 abbrev pub LiesWithin : ViewFrame → Canvas → Canvas → Type 0

@@ -1,6 +1,7 @@
 -- What is sent for the frames of an input: the picture of each View and Rows frame, and before it the covers of a view where
 -- covers are asked for after every so many coefficients.
-use Rattle.std.specs.Prelude.{◌≡◌, ℕ, ◌-◌, ◌+◌, ◌^◌, ◌<◌, ◌≤◌, ◌⊎◌, List, [], ◌∷◌, ◌++◌, length, take, All, flat_map, Option, Some, IfSome, ⊤}
+use Rattle.std.specs.Prelude.{◌≡◌, ℕ, ◌-◌, ◌+◌, ◌^◌, ◌<◌, ◌≤◌, ◌⊎◌, List, [], ◌∷◌, ◌++◌, length, take, All, flat_map, Option, Some, IfSome}
+use Rattle.std.specs.Prelude.{⊤}
 use Rattle.line_raster.specs.Canvas.{Canvas}
 use Rattle.pbm_writer.specs.Picture.{picture}
 use Rattle.block_disk.specs.Streams.{sent_after, PartSent}
@@ -17,7 +18,8 @@ use Rattle.chart_client.specs.declared.errors.ClientError.{ClientError}
 use Rattle.chart_client.specs.declared.errors.ClientError.TheVariants as client
 use Rattle.chart_client.specs.Accepting.{Accepts, Rejects}
 use Rattle.draw_command.specs.declared.draw_end.DrawEnd.{DrawEnd}
-use Rattle.draw_command.specs.declared.draw_end.DrawEnd.TheVariants.{NoMemory, ReadFault, SendFault, InputTooLong, BadFrame, Missing, BadCoefficient, UnknownSession}
+use Rattle.draw_command.specs.declared.draw_end.DrawEnd.TheVariants.{NoMemory, ReadFault, SendFault, InputTooLong, BadFrame, Missing}
+use Rattle.draw_command.specs.declared.draw_end.DrawEnd.TheVariants.{BadCoefficient, UnknownSession}
 use Rattle.draw_command.specs.Covers.{AreFirstCoversOf, AreCoversOf, SendsFrame, SendsFrames}
 
 -- what an error of the client is for the drawing
@@ -34,7 +36,8 @@ frame_end fault.NoMemory = NoMemory
 
 -- Frames were taken from the front of what stands before them, each was accepted by the client in order, and
 -- their covers and pictures were sent.
-pub record DrawsMore (every : Option ℕ) (old new : Pending) (holdings holdings' : List Holding) (before now : Option (List ℕ)) : Type 0 where
+pub record DrawsMore (every : Option ℕ) (old new : Pending) (holdings holdings' : List Holding)
+    (before now : Option (List ℕ)) : Type 0 where
   pub frames : List Frame
   pub fit : All Fits frames
   pub split : old.rest ≡ flat_map spelling frames ++ new.rest
@@ -128,7 +131,8 @@ HoldingStops every rest old before now (BadFrame at) =
     (now ≡ before) × ((within : ℕ) × (at ≡ rest.given + within) × Breaks frame_fields rest.rest within)
 HoldingStops every rest old before now end = NextStops every rest old before now end
 
-pub record FramesStop (every : Option ℕ) (old : Pending) (holdings : List Holding) (before now : Option (List ℕ)) (end : DrawEnd) : Type 0 where
+pub record FramesStop (every : Option ℕ) (old : Pending) (holdings : List Holding) (before now : Option (List ℕ))
+    (end : DrawEnd) : Type 0 where
   pub rest : Pending
   pub client : List Holding
   pub sent_first : Option (List ℕ)
@@ -141,7 +145,8 @@ fed piece old = held old.given (old.rest ++ piece)
 
 -- the frames that end within a piece were drawn
 abbrev pub PieceDone : Option ℕ → List ℕ → Pending → Pending → List Holding → List Holding → Option (List ℕ) → Option (List ℕ) → Type 0
-PieceDone every piece old new holdings holdings' before now = DrawsMore every (fed piece old) new holdings holdings' before now × IsPartial new
+PieceDone every piece old new holdings holdings' before now = DrawsMore every (fed piece old) new holdings holdings' before now
+    × IsPartial new
 
 -- why they weren't all drawn
 abbrev pub PieceStops : Option ℕ → List ℕ → Pending → List Holding → Option (List ℕ) → Option (List ℕ) → DrawEnd → Type 0

@@ -18,6 +18,8 @@ CoversNarrow =
 -- Where the view is accepted, the picture of a list that agrees with its frame lies within each cover.
 abbrev pub CoversHoldThePicture : Type 0
 CoversHoldThePicture =
-    (every : ℕ) (view : ViewFrame) (holdings new : List Holding) (covers : List Canvas) (i : ℕ) (cover picture : Canvas) (list : List (Option ℤ))
-    → FitsView view → AreFirstCovers every view holdings covers → slice_get covers i ≡ Some cover → Accepts (View view) (Some picture) holdings new
+    (every : ℕ) (view : ViewFrame) (holdings new : List Holding) (covers : List Canvas) (i : ℕ) (cover picture : Canvas)
+    (list : List (Option ℤ))
+    → FitsView view → AreFirstCovers every view holdings covers → slice_get covers i ≡ Some cover
+    → Accepts (View view) (Some picture) holdings new
     → AgreesWith view holdings list → LiesWithin view picture cover

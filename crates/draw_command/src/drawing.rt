@@ -6,7 +6,8 @@ ghost use Rattle.chart_frames.specs.Pending.{held};
 ghost use Rattle.chart_frames.specs.Stream.{IsPartial};
 ghost use Rattle.draw_command.specs.declared.draw_end.DrawEnd.TheVariants as draw_end;
 ghost use Rattle.draw_command.specs.Alone.{StaysAlone};
-ghost use Rattle.draw_command.specs.Draws.{DrawsMore, DrawsAll, EndsDraw, DrawsFrame, FrameStops, FramesStop, PieceStops, PieceDone, IsNumbered};
+ghost use Rattle.draw_command.specs.Draws.{DrawsMore, DrawsAll, EndsDraw, DrawsFrame, FrameStops, FramesStop, PieceStops, PieceDone};
+ghost use Rattle.draw_command.specs.Draws.{IsNumbered};
 
 use crate::covers::send_covers;
 use crate::draw_end::DrawEnd;
@@ -29,7 +30,8 @@ pub fn draw<S: World>(alloc: Global, streams: &mut S) -> Result<(), DrawEnd>
     ensures done { OnOk result (IfSome (S.left streams.old) (λ input. DrawsAll None input (S.sent streams.old) (S.sent streams.new))) }
     ensures within { OnOk result (IfSome (S.left streams.old) (λ input. length input ≤ 2 ^ 32)) }
     ensures whole { OnOk result (IfSome (S.left streams.old) (λ input. S.left streams.new ≡ Some [])) }
-    ensures ends { IfErr result (λ end. IfSome (S.left streams.old) (λ input. EndsDraw None input (S.left streams.new) (S.sent streams.old) (S.sent streams.new) end)) }
+    ensures ends { IfErr result (λ end. IfSome (S.left streams.old)
+        (λ input. EndsDraw None input (S.left streams.new) (S.sent streams.old) (S.sent streams.new) end)) }
     ensures read { result ≡ Err DrawEnd.ReadFault → HasRisen (S.read_faults streams.old) (S.read_faults streams.new) }
     ensures quiet_reads { result ≢ Err DrawEnd.ReadFault → S.read_faults streams.new ≡ S.read_faults streams.old }
     ensures numbered { IfErr result IsNumbered }
@@ -44,10 +46,12 @@ pub fn draw<S: World>(alloc: Global, streams: &mut S) -> Result<(), DrawEnd>
 /// coefficients, each number below that of all that the frame sends.
 pub fn cover<S: World>(alloc: Global, every: u32, streams: &mut S) -> Result<(), DrawEnd>
     requires some { 0 < every }
-    ensures done { OnOk result (IfSome (S.left streams.old) (λ input. DrawsAll (Some every) input (S.sent streams.old) (S.sent streams.new))) }
+    ensures done { OnOk result (IfSome (S.left streams.old)
+        (λ input. DrawsAll (Some every) input (S.sent streams.old) (S.sent streams.new))) }
     ensures within { OnOk result (IfSome (S.left streams.old) (λ input. length input ≤ 2 ^ 32)) }
     ensures whole { OnOk result (IfSome (S.left streams.old) (λ input. S.left streams.new ≡ Some [])) }
-    ensures ends { IfErr result (λ end. IfSome (S.left streams.old) (λ input. EndsDraw (Some every) input (S.left streams.new) (S.sent streams.old) (S.sent streams.new) end)) }
+    ensures ends { IfErr result (λ end. IfSome (S.left streams.old)
+        (λ input. EndsDraw (Some every) input (S.left streams.new) (S.sent streams.old) (S.sent streams.new) end)) }
     ensures read { result ≡ Err DrawEnd.ReadFault → HasRisen (S.read_faults streams.old) (S.read_faults streams.new) }
     ensures quiet_reads { result ≢ Err DrawEnd.ReadFault → S.read_faults streams.new ≡ S.read_faults streams.old }
     ensures numbered { IfErr result IsNumbered }
@@ -65,7 +69,8 @@ fn draw_input<S: World>(alloc: Global, every: Option<u32>, streams: &mut S) -> R
     ensures done { OnOk result (IfSome (S.left streams.old) (λ input. DrawsAll every input (S.sent streams.old) (S.sent streams.new))) }
     ensures within { OnOk result (IfSome (S.left streams.old) (λ input. length input ≤ 2 ^ 32)) }
     ensures whole { OnOk result (IfSome (S.left streams.old) (λ input. S.left streams.new ≡ Some [])) }
-    ensures ends { IfErr result (λ end. IfSome (S.left streams.old) (λ input. EndsDraw every input (S.left streams.new) (S.sent streams.old) (S.sent streams.new) end)) }
+    ensures ends { IfErr result (λ end. IfSome (S.left streams.old)
+        (λ input. EndsDraw every input (S.left streams.new) (S.sent streams.old) (S.sent streams.new) end)) }
     ensures read { result ≡ Err DrawEnd.ReadFault → HasRisen (S.read_faults streams.old) (S.read_faults streams.new) }
     ensures quiet_reads { result ≢ Err DrawEnd.ReadFault → S.read_faults streams.new ≡ S.read_faults streams.old }
     ensures numbered { IfErr result IsNumbered }
@@ -102,7 +107,8 @@ fn draw_pieces<S: World>(
     ensures done { OnOk result (IfSome (S.left streams.old) (λ input. DrawsAll every input (S.sent streams.old) (S.sent streams.new))) }
     ensures within { OnOk result (IfSome (S.left streams.old) (λ input. length input ≤ 2 ^ 32)) }
     ensures whole { OnOk result (IfSome (S.left streams.old) (λ input. S.left streams.new ≡ Some [])) }
-    ensures ends { IfErr result (λ end. IfSome (S.left streams.old) (λ input. EndsDraw every input (S.left streams.new) (S.sent streams.old) (S.sent streams.new) end)) }
+    ensures ends { IfErr result (λ end. IfSome (S.left streams.old)
+        (λ input. EndsDraw every input (S.left streams.new) (S.sent streams.old) (S.sent streams.new) end)) }
     ensures read { result ≡ Err DrawEnd.ReadFault → HasRisen (S.read_faults streams.old) (S.read_faults streams.new) }
     ensures quiet_reads { result ≢ Err DrawEnd.ReadFault → S.read_faults streams.new ≡ S.read_faults streams.old }
     ensures numbered { IfErr result IsNumbered }
@@ -179,7 +185,8 @@ fn draw_piece<S: World>(
     streams: &mut S,
 ) -> Result<(), DrawEnd>
     requires some { IfSome every (λ n. 0 < n) }
-    ensures done { OnOk result (PieceDone every piece.now decoder.old decoder.new client.old client.new (S.sent streams.old) (S.sent streams.new)) }
+    ensures done { OnOk result (PieceDone every piece.now decoder.old decoder.new client.old client.new (S.sent streams.old)
+        (S.sent streams.new)) }
     ensures stops { IfErr result (PieceStops every piece.now decoder.old client.old (S.sent streams.old) (S.sent streams.new)) }
     ensures numbered { IfErr result IsNumbered }
     ensures send { result ≡ Err DrawEnd.SendFault → HasRisen (S.send_faults streams.old) (S.send_faults streams.new) }

@@ -1,5 +1,6 @@
 -- What a client sees of a service's view: the series that the view is of, and no wanted key that fails.
-use Rattle.std.proofs.Common.{ℕ, ℤ, ◌≡◌, ◌==◌, ◌++◌, ◌^◌, ◌<◌, ◌≤◌, inl, inr, false, if◌then◌else◌, List, length, Option, None, Some, refl, sym, ap, ◌∙◌, subst, arith}
+use Rattle.std.proofs.Common.{ℕ, ℤ, ◌≡◌, ◌==◌, ◌++◌, ◌^◌, ◌<◌, ◌≤◌, inl, inr, false, if◌then◌else◌, List, length, Option, None, Some, refl}
+use Rattle.std.proofs.Common.{sym, ap, ◌∙◌, subst, arith}
 use Rattle.std.proofs.lemmas.Bool.Decides.{nat_tests}
 use Rattle.std.proofs.lemmas.Option.{slice_get_within, slice_get-get_or}
 use Rattle.chart_grid.specs.declared.axis.Axis.{Axis}
@@ -38,7 +39,8 @@ pub record Laws : Type 0 where
   pub same : (list : List (Option ℤ)) (axis : Axis) (grid : Grid) (lo hi : ℤ) (seen : Seen) →
       AreSlots list → length list ≤ 2 ^ 35 → axis.slots ≡ length list → seen.root ≡ span list (top_key (length list)) →
       ((k : Key) → IsNeeded list axis grid lo hi k → IsWanted seen axis grid lo hi k → seen.told k ≡ Some (coef list k)) →
-      (k : Key) → (IsWanted seen axis grid lo hi k → IsNeeded list axis grid lo hi k) × (IsNeeded list axis grid lo hi k → IsWanted seen axis grid lo hi k)
+      (k : Key) → (IsWanted seen axis grid lo hi k → IsNeeded list axis grid lo hi k)
+      × (IsNeeded list axis grid lo hi k → IsWanted seen axis grid lo hi k)
   pub spans : (list : List (Option ℤ)) (axis : Axis) (grid : Grid) (lo hi : ℤ) (seen : Seen) →
       AreSlots list → length list ≤ 2 ^ 35 → axis.slots ≡ length list → seen.root ≡ span list (top_key (length list)) →
       ((k : Key) → IsNeeded list axis grid lo hi k → IsWanted seen axis grid lo hi k → seen.told k ≡ Some (coef list k)) →
@@ -105,7 +107,8 @@ root-same v = root-back (series_root v.series) ∙ sym (v.laws.tops v.series.slo
 
 want-need : (v : View) (k : Key) → (Want v k → Need v k) × (Need v k → Want v k)
 want-need v k =
-    v.laws.same v.series.slots (axis_of v.series) v.spec.grid v.range.lo v.range.hi (seen_by (frame_of v) v.cache) (are-slots v.series v.good) (few v) refl
+    v.laws.same v.series.slots (axis_of v.series) v.spec.grid v.range.lo v.range.hi (seen_by (frame_of v) v.cache)
+    (are-slots v.series v.good) (few v) refl
     (root-same v) (λ j need want. right v j need) k
 
 some-coef : {a b : Coef} → ◌≡◌ {A = Option Coef} (Some a) (Some b) → a ≡ b
@@ -134,11 +137,13 @@ pub none-fails : (v : View) (k : Key) → Want v k → Fails (seen_by (frame_of 
 none-fails v k want (inl missing) = no-coef (sym missing ∙ right v k ((want-need v k).0 want))
 none-fails v k want (inr misfit) =
     let need = (want-need v k).0 want in
-    let shown = v.laws.spans v.series.slots (axis_of v.series) v.spec.grid v.range.lo v.range.hi (seen_by (frame_of v) v.cache) (are-slots v.series v.good) (few v) refl
+    let shown = v.laws.spans v.series.slots (axis_of v.series) v.spec.grid v.range.lo v.range.hi (seen_by (frame_of v) v.cache)
+    (are-slots v.series v.good) (few v) refl
     (root-same v) (λ j n w. right v j n) k want in
     let s : span v.series.slots k ≡ Some misfit.span = some-span (sym shown ∙ misfit.known_so) in
     let c : misfit.coef ≡ coef v.series.slots k = some-coef (sym misfit.told ∙ right v k need) in
-    no-parts (sym (ap (λ d. parts misfit.span d) (sym c) ∙ misfit.splits_not) ∙ v.laws.splits v.series.slots k misfit.span (are-slots v.series v.good) need.node.low s)
+    no-parts (sym (ap (λ d. parts misfit.span d) (sym c) ∙ misfit.splits_not)
+    ∙ v.laws.splits v.series.slots k misfit.span (are-slots v.series v.good) need.node.low s)
 
 -- the keys that the client wants are those that the service found needed
 pub wanted-same : (v : View) (wanted : List (Key × Coef)) → IsListOf (Want v) (told_by (frame_of v) v.cache) wanted → wanted ≡ v.needed

@@ -37,8 +37,10 @@ abbrev pub Lacks : Type 0
 Lacks = (line : Option (List ℕ)) (frame : Frame) (old new : State) (holdings : List Holding)
     → IsSound old → RepliesToLine line frame old new → Mirrors old.sessions holdings → OnlyLacksMemory frame holdings
 
-none_rejected : Follows → Lacks → (lines : List (Option (List ℕ))) (front behind : List Frame) (frame : Frame) (drawings : List (Option Canvas)) (old new : State)
-    (holdings now : List Holding) (e : ClientError) → IsSound old → RepliesToAll old lines (front ++ frame ∷ behind) new → Mirrors old.sessions holdings
+none_rejected : Follows → Lacks → (lines : List (Option (List ℕ))) (front behind : List Frame) (frame : Frame)
+    (drawings : List (Option Canvas)) (old new : State)
+    (holdings now : List Holding) (e : ClientError) → IsSound old → RepliesToAll old lines (front ++ frame ∷ behind) new
+    → Mirrors old.sessions holdings
     → AcceptsAll holdings front drawings now → Rejects frame e now → e ≡ NoMemory
 none_rejected each lacks [] [] behind frame drawings old new holdings now e sound all m a r = absurd all
 none_rejected each lacks [] (f ∷ fs) behind frame drawings old new holdings now e sound all m a r = absurd all
@@ -56,4 +58,5 @@ pub accepted : Follows → Lacks → (lines : List (Option (List ℕ))) (frames 
     → RepliesToAll old lines frames new → NoneRejected frames
 accepted each lacks lines frames old new sound none all = λ front behind frame drawings holdings e is a r.
     let P : List Frame → Type 0 = λ fs. RepliesToAll old lines fs new in
-    none_rejected each lacks lines front behind frame drawings old new [] holdings e sound (subst P is all) (ap (λ ss. map mirrored ss) (sym none)) a r
+    none_rejected each lacks lines front behind frame drawings old new [] holdings e sound (subst P is all)
+    (ap (λ ss. map mirrored ss) (sym none)) a r

@@ -1,5 +1,6 @@
 -- Holdings that mirror sessions: look-ups, closings and views at both ends.
-use Rattle.std.proofs.Common.{ℕ, ◌≡◌, ◌==◌, Bool, true, false, ◌||◌, ◌≢◌, if◌then◌else◌, All, AllPairs, suc, List, [], ◌∷◌, ◌++◌, map, Option, None, Some, refl, sym, ap, ◌∙◌, arith, subst}
+use Rattle.std.proofs.Common.{ℕ, ◌≡◌, ◌==◌, Bool, true, false, ◌||◌, ◌≢◌, if◌then◌else◌, All, AllPairs, suc, List, [], ◌∷◌, ◌++◌, map}
+use Rattle.std.proofs.Common.{Option, None, Some, refl, sym, ap, ◌∙◌, arith, subst}
 use Rattle.std.specs.Option.{option_map}
 use Rattle.std.proofs.lemmas.Bool.Decides.{nat_tests}
 use Rattle.std.proofs.lemmas.List.Elements.{All-head, All-tail}
@@ -119,12 +120,17 @@ cond-false x y false is = refl
 viewed-at : (n : ℕ) (spec : ViewSpec) (needed : Option (List (Key × Coef))) (s t : Session) (ss : List Session) → s.number ≡ n → s ≡ t
     → record { number = n; cache = (after_view spec needed t).cache } ∷ mirror ss ≡ mirror (after_view spec needed s ∷ ss)
 viewed-at n spec needed s t ss is e =
-    let P : ℕ → Type 0 = λ m. record { number = m; cache = (after_view spec needed s).cache } ∷ mirror ss ≡ mirror (after_view spec needed s ∷ ss) in
-    let Q : Session → Type 0 = λ u. record { number = n; cache = (after_view spec needed u).cache } ∷ mirror ss ≡ mirror (after_view spec needed s ∷ ss) in
+    let P : ℕ → Type 0 = λ m. record { number = m; cache = (after_view spec needed s).cache } ∷ mirror ss ≡ mirror
+    (after_view spec needed s ∷ ss) in
+    let Q : Session → Type 0 = λ u. record {
+      number = n;
+      cache = (after_view spec needed u).cache;
+    } ∷ mirror ss ≡ mirror (after_view spec needed s ∷ ss) in
     subst Q e (subst P is refl)
 
 -- a view of a session changes its list at both ends
-viewed-by : (n : ℕ) (spec : ViewSpec) (needed : Option (List (Key × Coef))) (s t : Session) (ss : List Session) (b : Bool) → (s.number == n) ≡ b
+viewed-by : (n : ℕ) (spec : ViewSpec) (needed : Option (List (Key × Coef))) (s t : Session) (ss : List Session) (b : Bool)
+    → (s.number == n) ≡ b
     → session_of n (s ∷ ss) ≡ Some t
     → (session_of n ss ≡ Some t → with_cache n (after_view spec needed t).cache (mirror ss) ≡ mirror (viewed n spec needed ss))
     → with_cache n (after_view spec needed t).cache (mirror (s ∷ ss)) ≡ mirror (viewed n spec needed (s ∷ ss))
@@ -134,7 +140,8 @@ viewed-by n spec needed s t ss true is here ih =
 viewed-by n spec needed s t ss false is here ih =
     rw is (ap (λ hs. mirrored s ∷ hs) (ih (sym (cond-false (Some s) (session_of n ss) (s.number == n) is) ∙ here)))
 
-pub viewed-same : (n : ℕ) (spec : ViewSpec) (needed : Option (List (Key × Coef))) (t : Session) (ss : List Session) → session_of n ss ≡ Some t
+pub viewed-same : (n : ℕ) (spec : ViewSpec) (needed : Option (List (Key × Coef))) (t : Session) (ss : List Session)
+    → session_of n ss ≡ Some t
     → with_cache n (after_view spec needed t).cache (mirror ss) ≡ mirror (viewed n spec needed ss)
 viewed-same n spec needed t [] here = refl
 viewed-same n spec needed t (s ∷ ss) here =
@@ -150,7 +157,8 @@ pub unviewed-same : (n : ℕ) (spec : ViewSpec) (ss : List Session) → mirror (
 unviewed-same n spec [] = refl
 unviewed-same n spec (s ∷ ss) = unviewed-by n spec s ss (s.number == n) refl (unviewed-same n spec ss)
 
-last-by : (n : ℕ) (spec : ViewSpec) (needed : Option (List (Key × Coef))) (s t : Session) (ss : List Session) (b : Bool) → (s.number == n) ≡ b
+last-by : (n : ℕ) (spec : ViewSpec) (needed : Option (List (Key × Coef))) (s t : Session) (ss : List Session) (b : Bool)
+    → (s.number == n) ≡ b
     → session_of n (s ∷ ss) ≡ Some t
     → (session_of n ss ≡ Some t → last_of (session_of n (viewed n spec needed ss)) ≡ Some spec)
     → last_of (session_of n (viewed n spec needed (s ∷ ss))) ≡ Some spec
@@ -163,7 +171,8 @@ last-by n spec needed s t ss false is here ih =
     ∙ ih (sym (cond-false (Some s) (session_of n ss) (s.number == n) is) ∙ here)
 
 -- an answered view is its session's last one
-pub last-viewed : (n : ℕ) (spec : ViewSpec) (needed : Option (List (Key × Coef))) (t : Session) (ss : List Session) → session_of n ss ≡ Some t
+pub last-viewed : (n : ℕ) (spec : ViewSpec) (needed : Option (List (Key × Coef))) (t : Session) (ss : List Session)
+    → session_of n ss ≡ Some t
     → last_of (session_of n (viewed n spec needed ss)) ≡ Some spec
 last-viewed n spec needed t [] here = cc
 last-viewed n spec needed t (s ∷ ss) here =

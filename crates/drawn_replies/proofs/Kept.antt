@@ -24,13 +24,15 @@ point s = (s.time, s.value)
 kept-points : (o : Option (List Step)) (ss : List Sample) → sample_points (filter (passes o) ss) ≡ filter (Keeps o) (sample_points ss)
 kept-points o [] = refl
 kept-points o (s ∷ ss) =
-    elim (passes o s) as (λ b. sample_points (cond b (s ∷ filter (passes o) ss) (filter (passes o) ss)) ≡ cond b (point s ∷ filter (Keeps o) (sample_points ss)) (filter (Keeps o) (sample_points ss))) [
+    elim (passes o s) as (λ b. sample_points (cond b (s ∷ filter (passes o) ss) (filter (passes o) ss)) ≡ cond b
+    (point s ∷ filter (Keeps o) (sample_points ss)) (filter (Keeps o) (sample_points ss))) [
       | true ↦ ap (λ ps. point s ∷ ps) (kept-points o ss)
       | false ↦ kept-points o ss
     ]
 
 -- what is kept of points in order is in order
-pub order-kept : (g : Grid) (o : Option (List Step)) (ss : List Sample) → AreInOrder g (sample_points ss) → AreInOrder g (sample_points (filter (passes o) ss))
+pub order-kept : (g : Grid) (o : Option (List Step)) (ss : List Sample) → AreInOrder g (sample_points ss)
+    → AreInOrder g (sample_points (filter (passes o) ss))
 order-kept g o ss order =
     subst (λ (ps : List (ℤ × ℤ)). AreInOrder g ps) (sym (kept-points o ss)) (record {
       shown = All-filter (Keeps o) (λ p. InWindow g p.0) (sample_points ss) order.shown;

@@ -1,6 +1,7 @@
 -- What a client does with the frame of a reply, where it mirrors the service's sessions.
 use Rattle.std.specs.Prelude.{◌↔◌, IsTrue, pos}
-use Rattle.std.proofs.Common.{ℕ, ◌≡◌, ◌≢◌, ◌<◌, inl, inr, List, [], ◌∷◌, All, AllPairs, Option, None, Some, slice_get, refl, sym, ap, ◌∙◌, subst, arith}
+use Rattle.std.proofs.Common.{ℕ, ◌≡◌, ◌≢◌, ◌<◌, inl, inr, List, [], ◌∷◌, All, AllPairs, Option, None, Some, slice_get, refl, sym, ap, ◌∙◌}
+use Rattle.std.proofs.Common.{subst, arith}
 use Rattle.std.specs.Option.{option_map}
 use Rattle.std.proofs.lemmas.List.Kept.{AllPairs-cons}
 use Rattle.std.proofs.lemmas.Option.{slice_get_within, slice_get-get_or}
@@ -30,7 +31,8 @@ use Rattle.chart_service.specs.Viewing.{rows_frame, axis_of, kept_by}
 use Rattle.chart_service.specs.Replies.{RepliesToLine}
 use Rattle.chart_client.specs.declared.holding.Holding.{Holding}
 use Rattle.chart_client.specs.declared.errors.ClientError.TheVariants.{Missing, BadCoefficient, UnknownSession, NoMemory}
-use Rattle.chart_client.specs.Holdings.{holding_of, opened as client_opened, without as client_without, with_cache, axis_of as client_axis, told_by, seen_by}
+use Rattle.chart_client.specs.Holdings.{holding_of, opened as client_opened, without as client_without, with_cache, axis_of as client_axis}
+use Rattle.chart_client.specs.Holdings.{told_by, seen_by}
 use Rattle.chart_client.specs.Agreeing.{IsGridOf, Agrees}
 use Rattle.chart_client.specs.Failing.{IsFirstFailing}
 use Rattle.chart_client.specs.Accepting.{AcceptsView, AcceptsRows, DrawsView, viewed as client_viewed, FailsView, session_in}
@@ -43,7 +45,8 @@ use Rattle.drawn_replies.proofs.Steps.{IsQuiet, OpenStep, CloseStep, ViewStep, R
 use Rattle.drawn_replies.proofs.Kept.{order-kept, placed}
 
 -- a frame that isn't a view's fails no view
-no-view : (frame : Frame) → ((view : ViewFrame) → frame ≡ ViewFrameOf view → ⊥) → (How : Seen → ℕ → Key → Type 0) (key : Key) (h : List Holding)
+no-view : (frame : Frame) → ((view : ViewFrame) → frame ≡ ViewFrameOf view → ⊥)
+    → (How : Seen → ℕ → Key → Type 0) (key : Key) (h : List Holding)
     → FailsView How key frame h → ⊥
 no-view frame none How key h f = none f.view f.is
 
@@ -82,7 +85,8 @@ view-same : {a b : ViewFrame} → ◌≡◌ {A = Frame} (ViewFrameOf a) (ViewFra
 view-same h = cc
 
 -- a session's holding
-holding-there : (n : ℕ) (ss : List Session) (s : Session) (h : List Holding) → session_of n ss ≡ Some s → Mirrors ss h → holding_of n h ≡ Some (mirrored s)
+holding-there : (n : ℕ) (ss : List Session) (s : Session) (h : List Holding) → session_of n ss ≡ Some s → Mirrors ss h
+    → holding_of n h ≡ Some (mirrored s)
 holding-there n ss s h found m = ap (λ hs. holding_of n hs) m ∙ held n ss ∙ ap (option_map mirrored) found
 
 quiet-follows : (frame : Frame) (old new : State) (h : List Holding) → IsQuiet frame → new.sessions ≡ old.sessions → Mirrors old.sessions h
@@ -106,7 +110,8 @@ open-follows frame old new h o m =
     let P : Frame → Type 0 = λ f. DrawsTheBook f old new h × OnlyLacksMemory f h in
     subst P (sym o.is) (
       λ drawing now a. (
-        a.1 ∙ ap (λ hs. client_opened o.number o.size hs) m ∙ opened-same o.number o.size old.sessions o.absent ∙ ap mirror (sym o.sessions),
+        a.1 ∙ ap (λ hs. client_opened o.number o.size hs) m ∙ opened-same o.number o.size old.sessions o.absent
+            ∙ ap mirror (sym o.sessions),
         a.0,
       ),
       lacks-by (Opened o.number o.size) h (λ view e. opened-no-view e) (λ n e gone. none-some e),
@@ -175,7 +180,8 @@ view-accepted v session old new h now drawing found cached stored after m a =
     let g = grid-is v a.grid a.grid_is in
     let wanted : a.wanted ≡ v.needed =
     wanted-same v a.wanted
-    (subst (λ (grid : Grid). IsListOf (IsWanted (seen_by (frame_of v) v.cache) (axis_of v.series) grid v.range.lo v.range.hi) (told_by (frame_of v) v.cache) a.wanted) g a.all_wanted) in (
+    (subst (λ (grid : Grid). IsListOf (IsWanted (seen_by (frame_of v) v.cache) (axis_of v.series) grid v.range.lo v.range.hi)
+    (told_by (frame_of v) v.cache) a.wanted) g a.all_wanted) in (
       a.holdings
           ∙ ap (λ es. with_cache v.number (client_viewed (frame_of v) v.cache es) h) wanted
           ∙ ap (λ c. with_cache v.number (client_viewed (frame_of v) c v.needed) h) (sym cached)
@@ -197,7 +203,8 @@ view-accepted v session old new h now drawing found cached stored after m a =
     )
 
 -- the holding of the session has the session's list
-cache-same : (number : ℕ) (session : Session) (old : State) (h : List Holding) (holding : Holding) → session_of number old.sessions ≡ Some session
+cache-same : (number : ℕ) (session : Session) (old : State) (h : List Holding) (holding : Holding)
+    → session_of number old.sessions ≡ Some session
     → Mirrors old.sessions h → holding_of number h ≡ Some holding → holding.cache ≡ session.cache
 cache-same number session old h holding found m is =
     ap (λ x. x.cache) (some-holding (sym is ∙ holding-there number old.sessions session h found m))
@@ -217,10 +224,13 @@ view-fails : (v : View) (How : Seen → ℕ → Key → Type 0) (key : Key) (ses
 view-fails v How key session old h found cached m f =
     let same : frame_of v ≡ f.view = view-same f.is in
     let P : ViewFrame → Type 0 = λ view. FailsAt v How key h view in
-    let at : FailsAt v How key h (frame_of v) = subst P (sym same) (record { holding = f.holding; open_is = f.open_is; grid = f.grid; grid_is = f.grid_is; first = f.first }) in
+    let at : FailsAt v How key h (frame_of v) = subst P (sym same)
+    (record { holding = f.holding; open_is = f.open_is; grid = f.grid; grid_is = f.grid_is; first = f.first }) in
     let cache : at.holding.cache ≡ v.cache = cache-same v.number session old h at.holding found m at.open_is ∙ cached in
-    let first = subst (λ (c : Cache). IsFirstFailing (seen_by (frame_of v) c) (axis_of v.series) at.grid v.range.lo v.range.hi key) cache at.first in
-    let here = subst (λ (grid : Grid). IsFirstFailing (seen_by (frame_of v) v.cache) (axis_of v.series) grid v.range.lo v.range.hi key) (grid-is v at.grid at.grid_is) first in
+    let first = subst (λ (c : Cache). IsFirstFailing (seen_by (frame_of v) c) (axis_of v.series) at.grid v.range.lo v.range.hi key) cache
+    at.first in
+    let here = subst (λ (grid : Grid). IsFirstFailing (seen_by (frame_of v) v.cache) (axis_of v.series) grid v.range.lo v.range.hi key)
+    (grid-is v at.grid at.grid_is) first in
     none-fails v key here.wanted here.fails
 
 view-lacks : (v : View) (session : Session) (old : State) (h : List Holding) → session_of v.number old.sessions ≡ Some session
@@ -233,14 +243,16 @@ view-lacks v session old h found cached m NoMemory r = refl
 
 view-drawn : (v : View) (session : Session) (old new : State) (h : List Holding) → session_of v.number old.sessions ≡ Some session
     → session.cache ≡ v.cache → slice_get old.book v.spec.series ≡ Some v.series
-    → new.sessions ≡ viewed v.number v.spec (Some v.needed) old.sessions → Mirrors old.sessions h → DrawsTheBook (ViewFrameOf (frame_of v)) old new h
+    → new.sessions ≡ viewed v.number v.spec (Some v.needed) old.sessions → Mirrors old.sessions h
+    → DrawsTheBook (ViewFrameOf (frame_of v)) old new h
 view-drawn v session old new h found cached stored after m None now a = absurd a
 view-drawn v session old new h found cached stored after m (Some drawing) now a =
     let cache : a.0.cache ≡ v.cache = cache-same v.number session old h a.0 found m a.1 ∙ cached in
     view-accepted v session old new h now drawing found cached stored after m
     (subst (λ (c : Cache). AcceptsView (frame_of v) c drawing h now) cache a.2)
 
-view-follows : (laws : Laws) (frame : Frame) (old new : State) (h : List Holding) → IsBook old.book → ViewStep frame old new → Mirrors old.sessions h
+view-follows : (laws : Laws) (frame : Frame) (old new : State) (h : List Holding) → IsBook old.book → ViewStep frame old new
+    → Mirrors old.sessions h
     → DrawsTheBook frame old new h × OnlyLacksMemory frame h
 view-follows laws frame old new h good s m =
     let v = view-of laws frame old new good s in
@@ -254,7 +266,8 @@ rows-no-view : {rows : RowsFrame} {view : ViewFrame} → ◌≡◌ {A = Frame} (
 rows-no-view h = cc
 
 -- the picture of rows that a filtered view is answered
-rows-drawn : (laws : Laws) (frame : Frame) (old new : State) (h now : List Holding) (drawing : Canvas) → IsBook old.book → (s : RowsStep frame old new)
+rows-drawn : (laws : Laws) (frame : Frame) (old new : State) (h now : List Holding) (drawing : Canvas) → IsBook old.book
+    → (s : RowsStep frame old new)
     → AcceptsRows (rows_frame s.number s.spec s.answers.range s.answers.rows) drawing h now
     → ShowsAnswered old new (rows_frame s.number s.spec s.answers.range s.answers.rows) drawing
 rows-drawn laws frame old new h now drawing good s a =
@@ -263,7 +276,8 @@ rows-drawn laws frame old new h now drawing good s a =
     let range = s.answers.range in
     let samples = kept grid axis s.series.slots in
     let step : 0 < axis.step = (book-series old.book s.spec.series s.series good s.stored).step_above_zero in
-    let order : ArePointsInOrder grid (sample_points (kept_by s.spec s.series)) = order-kept grid s.spec.filter samples (laws.order s.series.slots axis grid step) in
+    let order : ArePointsInOrder grid (sample_points (kept_by s.spec s.series)) = order-kept grid s.spec.filter samples
+    (laws.order s.series.slots axis grid step) in
     let draws : DrawsPoints grid range.lo range.hi (sample_points (kept_by s.spec s.series)) drawing =
     a.draws grid (sample_points (kept_by s.spec s.series)) (record { columns = refl; rows = refl }) order s.answers.are_rows in
     let P : List Point → Type 0 = λ ps. (x y : ℕ) → x < grid.w → y < grid.h → IsTrue (black_at drawing x y) ↔ InRaster ps x (pos y) in
@@ -280,7 +294,8 @@ rows-drawn laws frame old new h now drawing good s a =
       };
     }
 
-rows-accepted : (laws : Laws) (frame : Frame) (old new : State) (h : List Holding) → IsBook old.book → (s : RowsStep frame old new) → Mirrors old.sessions h
+rows-accepted : (laws : Laws) (frame : Frame) (old new : State) (h : List Holding) → IsBook old.book → (s : RowsStep frame old new)
+    → Mirrors old.sessions h
     → DrawsTheBook (Rows (rows_frame s.number s.spec s.answers.range s.answers.rows)) old new h
 rows-accepted laws frame old new h good s m None now a = absurd a
 rows-accepted laws frame old new h good s m (Some drawing) now a = (
@@ -291,7 +306,8 @@ rows-accepted laws frame old new h good s m (Some drawing) now a = (
   rows-drawn laws frame old new h now drawing good s a.1,
 )
 
-rows-follows : (laws : Laws) (frame : Frame) (old new : State) (h : List Holding) → IsBook old.book → RowsStep frame old new → Mirrors old.sessions h
+rows-follows : (laws : Laws) (frame : Frame) (old new : State) (h : List Holding) → IsBook old.book → RowsStep frame old new
+    → Mirrors old.sessions h
     → DrawsTheBook frame old new h × OnlyLacksMemory frame h
 rows-follows laws frame old new h good s m =
     let P : Frame → Type 0 = λ f. DrawsTheBook f old new h × OnlyLacksMemory f h in
@@ -299,12 +315,14 @@ rows-follows laws frame old new h good s m =
     subst P (sym s.answers.frame_is) (
       rows-accepted laws frame old new h good s m,
       lacks-by (Rows rows) h (λ view e. rows-no-view e)
-          (λ n e gone. some-none (sym (holding-there s.number old.sessions s.answers.session h s.answers.open_is m) ∙ ap (λ i. holding_of i h) (some-number e) ∙ gone)),
+          (λ n e gone. some-none (sym (holding-there s.number old.sessions s.answers.session h s.answers.open_is m)
+          ∙ ap (λ i. holding_of i h) (some-number e) ∙ gone)),
     )
 
 -- what a client does with the frame of a step: its sessions go on mirroring the service's, it draws the
 -- picture of the series, and nothing but want of memory comes in its way
-pub follows-step : (laws : Laws) (frame : Frame) (old new : State) (h : List Holding) → IsSound old → Step frame old new → Mirrors old.sessions h
+pub follows-step : (laws : Laws) (frame : Frame) (old new : State) (h : List Holding) → IsSound old → Step frame old new
+    → Mirrors old.sessions h
     → DrawsTheBook frame old new h × OnlyLacksMemory frame h
 follows-step laws frame old new h sound step m =
     elim step [
@@ -329,7 +347,8 @@ follows laws line frame old new h sound replied m = follows-step laws frame old 
 
 -- the series of an answered view agrees with what the client of its session holds
 agrees-at : (v : View) (session : Session) (old : State) (h : List Holding) (holding : Holding) (grid : Grid) (series : Series)
-    → session_of v.number old.sessions ≡ Some session → session.cache ≡ v.cache → slice_get old.book v.spec.series ≡ Some v.series → Mirrors old.sessions h
+    → session_of v.number old.sessions ≡ Some session → session.cache ≡ v.cache → slice_get old.book v.spec.series ≡ Some v.series
+    → Mirrors old.sessions h
     → holding_of v.number h ≡ Some holding → IsGridOf (frame_of v) grid → slice_get old.book v.spec.series ≡ Some series
     → Agrees (frame_of v) holding.cache grid series.slots
 agrees-at v session old h holding grid series found cached stored m open_is is there =
@@ -340,15 +359,18 @@ agrees-at v session old h holding grid series found cached stored m open_is is t
     (subst (λ (x : Grid). Agrees (frame_of v) holding.cache x v.series.slots) g
     (subst (λ (x : Cache). Agrees (frame_of v) x v.spec.grid v.series.slots) c (agrees v)))
 
-view-agrees : (laws : Laws) (frame : Frame) (view : ViewFrame) (old new : State) (h : List Holding) → IsBook old.book → ViewStep frame old new
+view-agrees : (laws : Laws) (frame : Frame) (view : ViewFrame) (old new : State) (h : List Holding) → IsBook old.book
+    → ViewStep frame old new
     → frame ≡ ViewFrameOf view → Mirrors old.sessions h → AgreesWithBook view old h
 view-agrees laws frame view old new h good s is m =
     let v = view-of laws frame old new good s in
     let P : ViewFrame → Type 0 = λ f. AgreesWithBook f old h in
     subst P (view-same (sym s.answers.frame_is ∙ is))
-    (λ holding grid series open_is grid_is there. agrees-at v s.answers.session old h holding grid series s.answers.open_is refl s.stored m open_is grid_is there)
+    (λ holding grid series open_is grid_is there. agrees-at v s.answers.session old h holding grid series s.answers.open_is refl s.stored m
+    open_is grid_is there)
 
-quiet-agrees : (frame : Frame) (view : ViewFrame) (old : State) (h : List Holding) → IsQuiet frame → frame ≡ ViewFrameOf view → AgreesWithBook view old h
+quiet-agrees : (frame : Frame) (view : ViewFrame) (old : State) (h : List Holding) → IsQuiet frame → frame ≡ ViewFrameOf view
+    → AgreesWithBook view old h
 quiet-agrees frame view old h (inl q) is = absurd (refused-no-view (sym q.3 ∙ is))
 quiet-agrees frame view old h (inr q) is = absurd (done-no-view (sym q.1 ∙ is))
 

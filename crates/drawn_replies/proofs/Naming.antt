@@ -1,5 +1,6 @@
 -- Replies name sessions that are open.
-use Rattle.std.proofs.Common.{◌≡◌, ℕ, Bool, true, false, ◌==◌, IsTrue, List, [], ◌∷◌, ◌++◌, Option, None, Some, refl, ap, sym, subst, inl, inr, ◌∙◌}
+use Rattle.std.proofs.Common.{◌≡◌, ℕ, Bool, true, false, ◌==◌, IsTrue, List, [], ◌∷◌, ◌++◌, Option, None, Some, refl, ap, sym, subst, inl}
+use Rattle.std.proofs.Common.{inr, ◌∙◌}
 use Rattle.std.specs.Prelude.{◌||◌, if◌then◌else◌}
 use Rattle.std.proofs.lemmas.List.Folds.{list_any-append}
 use Rattle.zoom_session.specs.declared.session.Session.{Session}
@@ -35,10 +36,11 @@ open_after number size n ss =
 
 open_of : (n : ℕ) (ss : List Session) (s : Session) → session_of n ss ≡ Some s → IsTrue (is_open n ss)
 open_of n [] s is = cc
-open_of n (t ∷ ss) s is = (elim (t.number == n) as (λ (b : Bool). (if b then Some t else session_of n ss) ≡ Some s → IsTrue (b || is_open n ss)) [
-  | true ↦ λ h. refl
-  | false ↦ λ h. open_of n ss s h
-]) is
+open_of n (t ∷ ss) s is = (elim (t.number == n) as (λ (b : Bool). (if b then Some t else session_of n ss) ≡ Some s
+    → IsTrue (b || is_open n ss)) [
+      | true ↦ λ h. refl
+      | false ↦ λ h. open_of n ss s h
+    ]) is
 
 quiet_opens : (frame : Frame) (ss ss' : List Session) → ss' ≡ ss → IsQuiet frame → OpensBy frame ss ss'
 quiet_opens frame ss ss' same (inl q) =
@@ -63,25 +65,31 @@ step_opens frame old new valid (inr (inr (inr (inl v)))) =
     let P : Frame → Type 0 = λ f. OpensBy f old.sessions new.sessions in
     let Q : List Session → Type 0 = λ l. OpensBy (View view) old.sessions l in
     let sessions : new.sessions ≡ viewed v.number v.spec (Some a.needed) old.sessions = ap (λ s. s.sessions) a.state in
-    subst P (sym a.frame_is) (subst Q (sym sessions) (opens_viewed v.number v.spec (Some a.needed) view old.sessions refl (open_of v.number old.sessions a.session a.open_is)))
+    subst P (sym a.frame_is) (subst Q (sym sessions)
+    (opens_viewed v.number v.spec (Some a.needed) view old.sessions refl (open_of v.number old.sessions a.session a.open_is)))
 step_opens frame old new valid (inr (inr (inr (inr r)))) =
     let a = r.answers in
     let rows = rows_frame r.number r.spec a.range a.rows in
     let P : Frame → Type 0 = λ f. OpensBy f old.sessions new.sessions in
     let Q : List Session → Type 0 = λ l. OpensBy (Rows rows) old.sessions l in
     let sessions : new.sessions ≡ viewed r.number r.spec None old.sessions = ap (λ s. s.sessions) a.state in
-    subst P (sym a.frame_is) (subst Q (sym sessions) (opens_rows r.number r.spec None rows old.sessions refl (open_of r.number old.sessions a.session a.open_is)))
+    subst P (sym a.frame_is) (subst Q (sym sessions)
+    (opens_rows r.number r.spec None rows old.sessions refl (open_of r.number old.sessions a.session a.open_is)))
 
-replies_name : (lines : List (Option (List ℕ))) (frames : List Frame) (old new : State) → AreSessions old.sessions → RepliesToAll old lines frames new → NameOpen (λ n. is_open n old.sessions) frames
+replies_name : (lines : List (Option (List ℕ))) (frames : List Frame) (old new : State) → AreSessions old.sessions
+    → RepliesToAll old lines frames new → NameOpen (λ n. is_open n old.sessions) frames
 replies_name [] [] old new valid all = tt
 replies_name [] (f ∷ fs) old new valid all = absurd all
 replies_name (l ∷ ls) [] old new valid all = absurd all
 replies_name (l ∷ ls) (f ∷ fs) old new valid all =
     let o = step_opens f old all.0 valid (step-of l f old all.0 all.1.0) in (
       names_open f old.sessions o.named,
-      name_alike fs (λ n. is_open n all.0.sessions) (λ n. opens f n (is_open n old.sessions)) o.after (replies_name ls fs all.0 new all.1.2.sessions all.2),
+      name_alike fs (λ n. is_open n all.0.sessions) (λ n. opens f n (is_open n old.sessions)) o.after
+          (replies_name ls fs all.0 new all.1.2.sessions all.2),
     )
 
-pub replies_open : (lines : List (Option (List ℕ))) (frames : List Frame) (old new : State) → AreSessions old.sessions → old.sessions ≡ [] → RepliesToAll old lines frames new → NameOpen (λ n. false) frames
+pub replies_open : (lines : List (Option (List ℕ))) (frames : List Frame) (old new : State) → AreSessions old.sessions → old.sessions ≡ []
+    → RepliesToAll old lines frames new → NameOpen (λ n. false) frames
 replies_open lines frames old new valid none all =
-    name_alike frames (λ n. is_open n old.sessions) (λ n. false) (λ n. ap (λ l. is_open n l) none) (replies_name lines frames old new valid all)
+    name_alike frames (λ n. is_open n old.sessions) (λ n. false) (λ n. ap (λ l. is_open n l) none)
+    (replies_name lines frames old new valid all)

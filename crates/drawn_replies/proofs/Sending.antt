@@ -30,7 +30,8 @@ module _ (is_sent : Frame → Bool) (some : List Session → List Session) where
 
   -- ---- what is drawn of the first of some frames, and of those behind it
 
-  pub record Next (f : Frame) (fs : List Frame) (new : State) (IsSo : Option Canvas → Type 0) (drawings : List (Option Canvas)) (now : List Holding) : Type 0 where
+  pub record Next (f : Frame) (fs : List Frame) (new : State) (IsSo : Option Canvas
+      → Type 0) (drawings : List (Option Canvas)) (now : List Holding) : Type 0 where
     pub drawn : List (Option Canvas)
     pub later : List (Option Canvas)
     pub drawings_are : drawings ≡ drawn ++ later
@@ -42,7 +43,8 @@ module _ (is_sent : Frame → Bool) (some : List Session → List Session) where
   abbrev Taken : Bool → Frame → List Frame → List (Option Canvas) → List Holding → List Holding → Type 0
   Taken b f fs drawings h now = AcceptsAll h (if b then f ∷ filter is_sent fs else filter is_sent fs) drawings now
 
-  sent_next : (f : Frame) (fs : List Frame) (old new : State) (IsSo : Option Canvas → Type 0) (drawings : List (Option Canvas)) (h now : List Holding)
+  sent_next : (f : Frame) (fs : List Frame) (old new : State) (IsSo : Option Canvas
+      → Type 0) (drawings : List (Option Canvas)) (h now : List Holding)
       → Follows is_sent some f old new IsSo → Mirrors (some old.sessions) h → is_sent f ≡ true
       → AcceptsAll h (f ∷ filter is_sent fs) drawings now
       → Next f fs new IsSo drawings now
@@ -50,18 +52,36 @@ module _ (is_sent : Frame → Bool) (some : List Session → List Session) where
   sent_next f fs old new IsSo (d ∷ ds) h now follows m sent a =
       let here = follows.draws sent h m d a.0 a.1 in
       let B : Bool → Type 0 = λ b. IsDrawn b IsSo (d ∷ []) in
-      record { drawn = d ∷ []; later = ds; drawings_are = refl; is = subst B (sym sent) (d, refl, here.1); holdings = a.0; mirrors = here.0; others = a.2 }
+      record {
+        drawn = d ∷ [];
+        later = ds;
+        drawings_are = refl;
+        is = subst B (sym sent) (d, refl, here.1);
+        holdings = a.0;
+        mirrors = here.0;
+        others = a.2;
+      }
 
-  unsent_next : (f : Frame) (fs : List Frame) (old new : State) (IsSo : Option Canvas → Type 0) (drawings : List (Option Canvas)) (h now : List Holding)
+  unsent_next : (f : Frame) (fs : List Frame) (old new : State) (IsSo : Option Canvas
+      → Type 0) (drawings : List (Option Canvas)) (h now : List Holding)
       → Follows is_sent some f old new IsSo → Mirrors (some old.sessions) h → is_sent f ≡ false
       → AcceptsAll h (filter is_sent fs) drawings now
       → Next f fs new IsSo drawings now
   unsent_next f fs old new IsSo drawings h now follows m unsent a =
       let B : Bool → Type 0 = λ b. IsDrawn b IsSo [] in
       let S : List Session → Type 0 = λ ss. Mirrors ss h in
-      record { drawn = []; later = drawings; drawings_are = refl; is = subst B (sym unsent) refl; holdings = h; mirrors = subst S (sym (follows.stays unsent)) m; others = a }
+      record {
+        drawn = [];
+        later = drawings;
+        drawings_are = refl;
+        is = subst B (sym unsent) refl;
+        holdings = h;
+        mirrors = subst S (sym (follows.stays unsent)) m;
+        others = a;
+      }
 
-  pub next : (f : Frame) (fs : List Frame) (old new : State) (IsSo : Option Canvas → Type 0) (drawings : List (Option Canvas)) (h now : List Holding)
+  pub next : (f : Frame) (fs : List Frame) (old new : State) (IsSo : Option Canvas
+      → Type 0) (drawings : List (Option Canvas)) (h now : List Holding)
       → Follows is_sent some f old new IsSo → Mirrors (some old.sessions) h → AcceptsAll h (filter is_sent (f ∷ fs)) drawings now
       → Next f fs new IsSo drawings now
   next f fs old new IsSo drawings h now follows m a =
@@ -74,7 +94,8 @@ module _ (is_sent : Frame → Bool) (some : List Session → List Session) where
   pub none_drawn : (f : Frame) (fs : List Frame) (drawn later : List (Option Canvas)) → IsDrawn (is_sent f) (λ d. d ≡ None) drawn
       → later ≡ map (λ x. None) (filter is_sent fs) → drawn ++ later ≡ map (λ x. None) (filter is_sent (f ∷ fs))
   none_drawn f fs drawn later is none =
-      (elim (is_sent f) as (λ b. IsDrawn b (λ d. d ≡ None) drawn → drawn ++ later ≡ map (λ x. None) (if b then f ∷ filter is_sent fs else filter is_sent fs)) [
+      (elim (is_sent f) as (λ b. IsDrawn b (λ d. d ≡ None) drawn
+      → drawn ++ later ≡ map (λ x. None) (if b then f ∷ filter is_sent fs else filter is_sent fs)) [
         | true ↦ λ one.
             ap (λ l. l ++ later) (one.1 ∙ ap (λ (d : Option Canvas). d ∷ []) one.2) ∙ ap (λ (l : List (Option Canvas)). None ∷ l) none
         | false ↦ λ no. ap (λ l. l ++ later) no ∙ none
@@ -104,7 +125,8 @@ module _ (is_sent : Frame → Bool) (some : List Session → List Session) where
   abbrev Kept : Bool → Frame → List Frame → List Frame
   Kept b f fs = if b then f ∷ filter is_sent fs else filter is_sent fs
 
-  pub none_rejected : (frames front behind : List Frame) (frame : Frame) (drawings : List (Option Canvas)) (old new : State) (h now : List Holding) (e : ClientError)
+  pub none_rejected : (frames front behind : List Frame) (frame : Frame) (drawings : List (Option Canvas)) (old new : State)
+      (h now : List Holding) (e : ClientError)
       → AllFollow old frames new → Mirrors (some old.sessions) h → filter is_sent frames ≡ front ++ frame ∷ behind
       → AcceptsAll h front drawings now → Rejects frame e now → e ≡ NoMemory
   none_rejected [] front behind frame drawings old new h now e all m is a r = absurd (none_there front behind frame is)
@@ -117,7 +139,8 @@ module _ (is_sent : Frame → Bool) (some : List Session → List Session) where
             let F : Frame → Type 0 = λ x. Rejects x e now in
             let H : List Holding → Type 0 = λ x. Rejects f e x in
             all.1.accepts sent h m e (subst H a (subst F (sym same) r))
-        | false ↦ λ unsent is'. none_rejected fs [] behind frame [] all.0 new h now e all.2 (stays_mirrored f old all.0 h all.1 unsent m) is' a r
+        | false ↦ λ unsent is'. none_rejected fs [] behind frame [] all.0 new h now e all.2
+            (stays_mirrored f old all.0 h all.1 unsent m) is' a r
       ]) refl is
   none_rejected (f ∷ fs) (g ∷ gs) behind frame (d ∷ ds) old new h now e all m is a r =
       (elim (is_sent f) as (λ b. is_sent f ≡ b → Kept b f fs ≡ g ∷ (gs ++ frame ∷ behind) → e ≡ NoMemory) [
@@ -127,7 +150,8 @@ module _ (is_sent : Frame → Bool) (some : List Session → List Session) where
             let A : Frame → Type 0 = λ x. Accepts x d h a.0 in
             let here = all.1.draws sent h m d a.0 (subst A (sym same) a.1) in
             none_rejected fs gs behind frame ds all.0 new a.0 now e all.2 here.0 rest a.2 r
-        | false ↦ λ unsent is'. none_rejected fs (g ∷ gs) behind frame (d ∷ ds) all.0 new h now e all.2 (stays_mirrored f old all.0 h all.1 unsent m) is' a r
+        | false ↦ λ unsent is'. none_rejected fs (g ∷ gs) behind frame (d ∷ ds) all.0 new h now e all.2
+            (stays_mirrored f old all.0 h all.1 unsent m) is' a r
       ]) refl is
 
 -- ---- a client that is sent each frame
@@ -136,9 +160,14 @@ never : true ≡ false → ⊥
 never is = cc
 
 pub each_follows : (f : Frame) (old new : State) (IsSo : Option Canvas → Type 0)
-    → ((h : List Holding) → Mirrors old.sessions h → (d : Option Canvas) (now : List Holding) → Accepts f d h now → Mirrors new.sessions now × IsSo d)
+    → ((h : List Holding) → Mirrors old.sessions h → (d : Option Canvas) (now : List Holding) → Accepts f d h now
+    → Mirrors new.sessions now × IsSo d)
     → ((h : List Holding) → Mirrors old.sessions h → OnlyLacksMemory f h) → Follows each (λ ss. ss) f old new IsSo
-each_follows f old new IsSo draws accepts = record { draws = λ sent h m d now a. draws h m d now a; accepts = λ sent h m. accepts h m; stays = λ unsent. absurd (never unsent) }
+each_follows f old new IsSo draws accepts = record {
+  draws = λ sent h m d now a. draws h m d now a;
+  accepts = λ sent h m. accepts h m;
+  stays = λ unsent. absurd (never unsent);
+}
 
 pub all_sent : (frames : List Frame) → filter each frames ≡ frames
 all_sent [] = refl

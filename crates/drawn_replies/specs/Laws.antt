@@ -71,9 +71,11 @@ RepliesDrawTheBook =
 -- The same of the frames of one session alone.
 abbrev pub OwnRepliesDrawTheBook : Type 0
 OwnRepliesDrawTheBook =
-    (n : ℕ) (lines : List (Option (List ℕ))) (frames : List Frame) (drawings : List (Option Canvas)) (old new : State) (holdings now : List Holding)
+    (n : ℕ) (lines : List (Option (List ℕ))) (frames : List Frame) (drawings : List (Option Canvas)) (old new : State)
+    (holdings now : List Holding)
     → IsSound old → RepliesToAll old lines frames new → Mirrors (only n old.sessions) holdings
-    → AcceptsAll holdings (filter (names n) frames) drawings now → AreOwnPictured n old lines frames drawings new × Mirrors (only n new.sessions) now
+    → AcceptsAll holdings (filter (names n) frames) drawings now
+    → AreOwnPictured n old lines frames drawings new × Mirrors (only n new.sessions) now
 
 -- Of the frames of one session, from the first line on, none is rejected.
 abbrev pub OwnRepliesAreAccepted : Type 0

@@ -26,7 +26,8 @@ ArePictured old [] frames drawings new = (frames ≡ []) × (drawings ≡ []) ×
 ArePictured old (line ∷ lines) [] drawings new = ⊥
 ArePictured old (line ∷ lines) (frame ∷ frames) [] new = ⊥
 ArePictured old (line ∷ lines) (frame ∷ frames) (drawing ∷ drawings) new =
-    (between : State) × RepliesToLine line frame old between × IsPictureOf old between frame drawing × ArePictured between lines frames drawings new
+    (between : State) × RepliesToLine line frame old between × IsPictureOf old between frame drawing
+    × ArePictured between lines frames drawings new
 
 -- the frame is of the session n: it opens or closes it, or shows something in it
 abbrev pub names : ℕ → Frame → Bool
@@ -61,5 +62,6 @@ AreOwnPictured n old (line ∷ lines) (frame ∷ frames) drawings new =
 -- A client accepts the frames one after the other, unless memory runs out: none of them is rejected after those
 -- before it.
 abbrev pub NoneRejected : List Frame → Type 0
-NoneRejected frames = (front behind : List Frame) (frame : Frame) (drawings : List (Option Canvas)) (holdings : List Holding) (e : ClientError)
+NoneRejected frames = (front behind : List Frame) (frame : Frame) (drawings : List (Option Canvas)) (holdings : List Holding)
+    (e : ClientError)
     → frames ≡ front ++ frame ∷ behind → AcceptsAll [] front drawings holdings → Rejects frame e holdings → e ≡ NoMemory

@@ -17,8 +17,10 @@ each frame = true
 -- What a client does that holds some of the sessions, by the states before and after a frame. Where it is sent the
 -- frame, it draws a drawing that is so, and goes on holding these sessions, and nothing but want of memory keeps it from
 -- that; where it isn't, these sessions stay.
-pub record Follows (is_sent : Frame → Bool) (some : List Session → List Session) (frame : Frame) (old new : State) (IsSo : Option Canvas → Type 0) : Type 0 where
-  pub draws : is_sent frame ≡ true → (holdings : List Holding) → Mirrors (some old.sessions) holdings → (drawing : Option Canvas) (now : List Holding)
+pub record Follows (is_sent : Frame → Bool) (some : List Session → List Session) (frame : Frame) (old new : State) (IsSo : Option Canvas
+    → Type 0) : Type 0 where
+  pub draws : is_sent frame ≡ true → (holdings : List Holding) → Mirrors (some old.sessions) holdings
+      → (drawing : Option Canvas) (now : List Holding)
       → Accepts frame drawing holdings now → Mirrors (some new.sessions) now × IsSo drawing
   pub accepts : is_sent frame ≡ true → (holdings : List Holding) → Mirrors (some old.sessions) holdings → OnlyLacksMemory frame holdings
   pub stays : is_sent frame ≡ false → some new.sessions ≡ some old.sessions

@@ -6,7 +6,9 @@ ghost use Rattle.chart_service.specs.State.{State, IsSound};
 ghost use Rattle.chart_service.specs.Serving.{RepliesToAll};
 ghost use Rattle.chart_service.specs.Naming.{NameOpened};
 ghost use Rattle.drawn_replies.specs.Pictures.{NoneRejected};
-ghost use Rattle.drawn_replies.specs.Laws.{LinesAreDrawn, LinesAreAccepted, RequestsAreDrawn, RequestsAreAccepted, LineViewsAgree, RequestViewsAgree, RepliesDrawTheBook, OwnRepliesDrawTheBook, OwnRepliesAreAccepted, OwnLinesAreDrawn, OwnRequestsAreDrawn};
+ghost use Rattle.drawn_replies.specs.Laws.{LinesAreDrawn, LinesAreAccepted, RequestsAreDrawn, RequestsAreAccepted, LineViewsAgree};
+ghost use Rattle.drawn_replies.specs.Laws.{RequestViewsAgree, RepliesDrawTheBook, OwnRepliesDrawTheBook, OwnRepliesAreAccepted};
+ghost use Rattle.drawn_replies.specs.Laws.{OwnLinesAreDrawn, OwnRequestsAreDrawn};
 
 use chart_service::laws::frames_name_opened_sessions;
 use coefficient_cache::laws::sent_and_held_give_the_needed;

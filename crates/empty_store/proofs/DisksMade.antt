@@ -14,7 +14,8 @@ use Rattle.empty_store.specs.Kept.{LeavesOld, Stays}
 use Rattle.empty_store.specs.Stores.{IsEmptyStore, BeforeOrNew, LeavesNew, Makes}
 
 -- the images of the moments so far stand as before
-pub stood : (count : ℕ) (old mid : View) → Passes old mid (StandsAsBefore count old) (Quiet old) → (at : ℕ) (image : Image) → old.clock ≤ at → at ≤ mid.clock → mid.crash at image → StandsAsBefore count old image
+pub stood : (count : ℕ) (old mid : View) → Passes old mid (StandsAsBefore count old) (Quiet old) → (at : ℕ) (image : Image) → old.clock ≤ at
+    → at ≤ mid.clock → mid.crash at image → StandsAsBefore count old image
 stood count old mid passes at image low high left = elim (cases_lt old.clock at) [
   | inl moved ↦ passes.here at image moved high left
   | inr stands ↦
@@ -23,7 +24,8 @@ stood count old mid passes at image low high left = elim (cases_lt old.clock at)
       record { from = image; was = subst P same (passes.past at image stands left); same = refl; readable = λ is. is }
 ]
 
-pub sent_so : (old mid : View) (images : Image → Type 0) → Passes old mid images (Quiet old) → (at : ℕ) → old.clock ≤ at → at ≤ mid.clock → mid.sent_by at ≡ sent_now old
+pub sent_so : (old mid : View) (images : Image → Type 0) → Passes old mid images (Quiet old) → (at : ℕ) → old.clock ≤ at → at ≤ mid.clock
+    → mid.sent_by at ≡ sent_now old
 sent_so old mid images passes at low high = elim (cases_lt old.clock at) [
   | inl moved ↦ passes.sent_here at moved high
   | inr stands ↦
@@ -42,14 +44,16 @@ longer : (page : List ℕ) (byte : ℕ) → (byte ∷ page ≡ page) → ⊥
 longer page byte same = omega (arith, ap length same)
 
 -- The journal of an image that may be left can be read: else its pages might be any.
-module _ (count : ℕ) (crash : Image → Type 0) (base : Image) (at_each : (pages : Image) → PagesOf count crash pages → (pages ≡ base) ⊎ IsEmptyStore count pages) (image : Image) (left : crash image) where
+module _ (count : ℕ) (crash : Image → Type 0) (base : Image) (at_each : (pages : Image) → PagesOf count crash pages → (pages ≡ base)
+    ⊎ IsEmptyStore count pages) (image : Image) (left : crash image) where
   pub left_readable : IsReadable count image
   left_readable broken =
       let odd : Image = λ page. 1 ∷ base page in
       elim (at_each odd (record { from = image; was = left; same = λ readable. absurd (readable broken) })) [
         | inl same ↦ longer (base 0) 1 (ap (λ (i : Image). i 0) same)
         | inr store ↦
-            let byte : 1 ≡ 67 = ap (λ (l : List ℕ). get_or l 0 0) store.first ∙ first_byte (superblock_page (empty_of count)) (marked (empty_of count)) in
+            let byte : 1 ≡ 67 = ap (λ (l : List ℕ). get_or l 0 0) store.first
+            ∙ first_byte (superblock_page (empty_of count)) (marked (empty_of count)) in
             omega (arith, byte)
       ]
 
@@ -71,7 +75,8 @@ broken_home count n image same broken =
     ∙ ap (λ o. replayed o image) none
 
 -- An opening, and a store made behind it. The pages know how many they are.
-pub leaves_made : (n count count' : ℕ) (sound sound' : Bool) (old mid new : View) → count ≡ n → count' ≡ count → Honest old → Passes old mid (StandsAsBefore n old) (Quiet old) → pages_of count mid.image ≡ pages_of count old.image
+pub leaves_made : (n count count' : ℕ) (sound sound' : Bool) (old mid new : View) → count ≡ n → count' ≡ count → Honest old
+    → Passes old mid (StandsAsBefore n old) (Quiet old) → pages_of count mid.image ≡ pages_of count old.image
     → Makes (pages_view count sound mid) (pages_view count' sound' new) → GoesOn mid new → LeavesNew n old new
 leaves_made n count count' sound sound' old mid new counted same_count honest passes same makes goes =
     let P : ℕ → Type 0 = λ m. Makes (pages_view m sound mid) (pages_view n sound' new) in
@@ -81,7 +86,8 @@ leaves_made n count count' sound sound' old mid new counted same_count honest pa
     record {
       goes_on = goes_then old mid new (goes_by old mid (StandsAsBefore n old) (Quiet old) passes) goes;
       images = λ at image low high left. elim (cases_lt mid.clock at) [
-        | inl late ↦ left_so n (new.crash at) (pages_of n mid.image) (λ pages found. made.here at pages late high found) image left old honest (subst S counted same)
+        | inl late ↦ left_so n (new.crash at) (pages_of n mid.image)
+            (λ pages found. made.here at pages late high found) image left old honest (subst S counted same)
         | inr early ↦ inl (stood n old mid passes at image low early (goes.past at image early left))
       ];
       sent = λ at low high. elim (cases_lt mid.clock at) [
@@ -91,7 +97,8 @@ leaves_made n count count' sound sound' old mid new counted same_count honest pa
     }
 
 -- An opening, and pages that stay behind it.
-pub kept_made : (n count count' : ℕ) (sound sound' : Bool) (old mid new : View) → count ≡ n → count' ≡ count → Honest old → Passes old mid (StandsAsBefore n old) (Quiet old) → pages_of count mid.image ≡ pages_of count old.image
+pub kept_made : (n count count' : ℕ) (sound sound' : Bool) (old mid new : View) → count ≡ n → count' ≡ count → Honest old
+    → Passes old mid (StandsAsBefore n old) (Quiet old) → pages_of count mid.image ≡ pages_of count old.image
     → Stays (pages_view count sound mid) (pages_view count' sound' new) → GoesOn mid new → LeavesOld n old new
 kept_made n count count' sound sound' old mid new counted same_count honest passes same stays goes =
     let P : ℕ → Type 0 = λ m. Stays (pages_view m sound mid) (pages_view n sound' new) in
@@ -102,8 +109,10 @@ kept_made n count count' sound sound' old mid new counted same_count honest pass
       | inl late ↦ record {
         from = old.image;
         was = honest;
-        same = kept.here at (pages_of n image) late high (record { from = image; was = left; same = λ readable. refl }) ∙ subst S counted same;
-        readable = λ any. left_readable n (new.crash at) (pages_of n mid.image) (λ pages found. inl (kept.here at pages late high found)) image left;
+        same = kept.here at (pages_of n image) late high (record { from = image; was = left; same = λ readable. refl })
+            ∙ subst S counted same;
+        readable = λ any. left_readable n (new.crash at) (pages_of n mid.image)
+            (λ pages found. inl (kept.here at pages late high found)) image left;
       }
       | inr early ↦ stood n old mid passes at image low early (goes.past at image early left)
     ]
@@ -125,14 +134,16 @@ module _ (count reads syncs writes : ℕ) (old mid : View) (quiet : Moves Nowher
   leaves_back new leaves = record {
     goes_on = goes_then old mid new (goes_by old mid (StandsAsBefore count old) (Quiet old) quiet_time) leaves.goes_on;
     images = λ at image low high left. elim (cases_lt at mid.clock) [
-      | inl early ↦ inl (stood count old mid quiet_time at image low (omega (arith, early)) (leaves.goes_on.past at image (omega (arith, early)) left))
+      | inl early ↦ inl (stood count old mid quiet_time at image low (omega (arith, early))
+          (leaves.goes_on.past at image (omega (arith, early)) left))
       | inr late ↦ elim (leaves.images at image late high left) [
         | inl stands ↦ inl (back image stands)
         | inr store ↦ inr store
       ]
     ];
     sent = λ at low high. elim (cases_lt at mid.clock) [
-      | inl early ↦ leaves.goes_on.sent_past at (omega (arith, early)) ∙ sent_so old mid (StandsAsBefore count old) quiet_time at low (omega (arith, early))
+      | inl early ↦ leaves.goes_on.sent_past at (omega (arith, early))
+          ∙ sent_so old mid (StandsAsBefore count old) quiet_time at low (omega (arith, early))
       | inr late ↦ leaves.sent at late high ∙ sent_same old mid (StandsAsBefore count old) quiet_time
     ];
   }

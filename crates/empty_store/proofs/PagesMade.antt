@@ -31,16 +31,20 @@ first_at count (suc n) p low = elim (eqb_tells p n) [
 -- pages that were read alone stay
 pub stays_read : (told told' : Type 0) (old new : View) → Only old.image (Now old) → Reads told told' old new → Stays old new
 stays_read told told' old new only reads =
-    passes_weaker old new (Now old) (λ pages. pages ≡ old.image) (Quiet old) (Quiet old) (λ pages left. only pages left) (λ count quiet. quiet) reads.time
+    passes_weaker old new (Now old) (λ pages. pages ≡ old.image) (Quiet old) (Quiet old) (λ pages left. only pages left)
+    (λ count quiet. quiet) reads.time
 
 -- pages that were read and lack the magic of version 2 lack that of version 1 too, where they lack it once they are current
-pub lacks_both : (told told' : Type 0) (old mid : View) → Reads told told' old mid → (told → HasMagic (old.image 0) → ⊥) → told → HasMagic (current old.image 0) → HasOldMagic (mid.image 0)
+pub lacks_both : (told told' : Type 0) (old mid : View) → Reads told told' old mid → (told → HasMagic (old.image 0) → ⊥) → told
+    → HasMagic (current old.image 0) → HasOldMagic (mid.image 0)
 lacks_both told told' old mid reads lacks is magic = elim (either_magic old.image magic) [
   | inl new ↦ absurd (lacks is new)
   | inr one ↦ let P : Image → Type 0 = λ image. HasOldMagic (image 0) in subst P (sym (reads.image is)) one
 ]
 
-pub stays_then : (told told' : Type 0) (old mid new : View) → told → Only old.image (Now old) → Reads told told' old mid → Stays mid new → Stays old new
+pub stays_then : (told told' : Type 0) (old mid new : View) → told → Only old.image (Now old) → Reads told told' old mid → Stays mid new
+    → Stays old new
 stays_then told told' old mid new holds only reads stays =
     time_then old mid new (λ pages. pages ≡ old.image) (stays_read told told' old mid only reads)
-    (passes_weaker mid new (λ pages. pages ≡ mid.image) (λ pages. pages ≡ old.image) (Quiet mid) (Quiet mid) (λ pages same. same ∙ reads.image holds) (λ count quiet. quiet) stays)
+    (passes_weaker mid new (λ pages. pages ≡ mid.image) (λ pages. pages ≡ old.image) (Quiet mid) (Quiet mid) (λ pages same. same
+    ∙ reads.image holds) (λ count quiet. quiet) stays)

@@ -19,7 +19,8 @@ given (Ok value) = value
 given (Err back) = back.value
 
 -- the disk of pages, given or handed back
-abbrev pub lowered : {D : Type 0} {disk : Ghosts D} → Result (GatePages D disk) (Back (GatePages D disk) InitCause) → Result D (Back D InitCause)
+abbrev pub lowered : {D : Type 0} {disk : Ghosts D} → Result (GatePages D disk) (Back (GatePages D disk) InitCause)
+    → Result D (Back D InitCause)
 lowered (Ok pages) = Ok (shown.disk pages)
 lowered (Err back) = Err (record { value = shown.disk back.value; cause = back.cause })
 

@@ -34,7 +34,8 @@ pub fn make_store<D: Disk>(alloc: Global, disk: D) -> Result<D, Back<D, InitCaus
     // a crash at any moment leaves the pages from before, or the store
     ensures moments { Honest (D.view disk) → LeavesNew (page_count (D.view disk).size) (D.view disk) (D.view (given result)) }
     // a store that is there stays at each moment
-    ensures kept { Honest (D.view disk) → HasStore (page_count (D.view disk).size) (D.view disk).image → LeavesOld (page_count (D.view disk).size) (D.view disk) (D.view (given result)) }
+    ensures kept { Honest (D.view disk) → HasStore (page_count (D.view disk).size) (D.view disk).image
+        → LeavesOld (page_count (D.view disk).size) (D.view disk) (D.view (given result)) }
     ensures honest { Honest (D.view disk) → Honest (D.view (given result)) }
     ensures beside { (D.view (given result)).beside ≡ (D.view disk).beside }
     ensures few { Costs 68 7 102 (D.view disk) (D.view (given result)) }

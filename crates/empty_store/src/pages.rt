@@ -23,7 +23,8 @@ pub(crate) fn make_pages<P: Pages>(alloc: Global, pages: P) -> Result<P, Back<P,
     ensures cause { IfErr result (λ back. PreventsPages back.cause (P.told pages) (P.view pages) (P.view back.value)) }
     ensures quiet { IfOk result (λ made. (P.view made).faults ≡ (P.view pages).faults) }
     ensures quiet_err { IfErr result (λ back. back.cause ≢ InitCause.DiskFault → (P.view back.value).faults ≡ (P.view pages).faults) }
-    ensures no_memory { IfErr result (λ back. back.cause ≡ InitCause.NoMemory → P.told pages → (P.view back.value).image ≡ (P.view pages).image) }
+    ensures no_memory { IfErr result (λ back. back.cause ≡ InitCause.NoMemory → P.told pages
+        → (P.view back.value).image ≡ (P.view pages).image) }
     ensures fresh { IfOk result (λ made. P.told pages → HasMagic (current (P.view pages).image 0) → ⊥) }
     ensures makes { P.told pages → Makes (P.view pages) (P.view (given result)) }
     ensures kept { P.told pages → HasMagic (current (P.view pages).image 0) → Stays (P.view pages) (P.view (given result)) }
@@ -62,7 +63,8 @@ fn make_new<P: Pages>(alloc: Global, mut pages: P) -> Result<P, Back<P, InitCaus
     ensures cause { IfErr result (λ back. PreventsPages back.cause (P.told pages) (P.view pages) (P.view back.value)) }
     ensures quiet { IfOk result (λ made. (P.view made).faults ≡ (P.view pages).faults) }
     ensures quiet_err { IfErr result (λ back. back.cause ≢ InitCause.DiskFault → (P.view back.value).faults ≡ (P.view pages).faults) }
-    ensures no_memory { IfErr result (λ back. back.cause ≡ InitCause.NoMemory → P.told pages → (P.view back.value).image ≡ (P.view pages).image) }
+    ensures no_memory { IfErr result (λ back. back.cause ≡ InitCause.NoMemory → P.told pages
+        → (P.view back.value).image ≡ (P.view pages).image) }
     ensures fresh { IfOk result (λ made. P.told pages → HasOldMagic ((P.view pages).image 0) → ⊥) }
     ensures makes { P.told pages → Makes (P.view pages) (P.view (given result)) }
     ensures kept { P.told pages → HasOldMagic ((P.view pages).image 0) → Stays (P.view pages) (P.view (given result)) }

@@ -52,48 +52,68 @@ halves_of s k low meets =
     let same : first_slot (right_of k) ≡ end_slot (left_of k) = refl in
     let more : first_slot k < end_slot (left_of k) = left_some k low in
     let less : end_slot (left_of k) < end_slot k = right_some k low in
-    let sum : n ≡ n1 + n2 = slots_sum s.from s.end (first_slot k) (end_slot (left_of k)) (end_slot k) (first_slot (left_of k)) (end_slot (right_of k)) l r more less in
+    let sum : n ≡ n1 + n2 = slots_sum s.from s.end (first_slot k) (end_slot (left_of k)) (end_slot k) (first_slot (left_of k))
+    (end_slot (right_of k)) l r more less in
     let some : 1 ≤ n = omega (arith, meets.some) in
     elim (cut_or_within s.from s.end (first_slot k) (end_slot k)) [
-      | inl before ↦ sum_cut n1 n2 n (most_cut s.from s.end (left_of k)) (most_cut s.from s.end (right_of k)) (most_cut s.from s.end k) sum some
+      | inl before ↦ sum_cut n1 n2 n (most_cut s.from s.end (left_of k)) (most_cut s.from s.end (right_of k))
+          (most_cut s.from s.end k) sum some
           (cut_counts s.from s.end k (omega (arith, meets.some), omega (arith, meets.some), inl before))
       | inr other ↦ elim other [
-        | inl behind ↦ sum_cut n1 n2 n (most_cut s.from s.end (left_of k)) (most_cut s.from s.end (right_of k)) (most_cut s.from s.end k) sum some
+        | inl behind ↦ sum_cut n1 n2 n (most_cut s.from s.end (left_of k)) (most_cut s.from s.end (right_of k))
+            (most_cut s.from s.end k) sum some
             (cut_counts s.from s.end k (omega (arith, meets.some), omega (arith, meets.some), inr behind))
-        | inr within ↦ sum_whole n1 n2 n (most_cut s.from s.end (left_of k)) (most_cut s.from s.end (right_of k)) (most_cut s.from s.end k) sum
-            (some_slots s.from s.end (first_slot (left_of k)) (end_slot (left_of k)) (omega (arith, within.0, l)) (omega (arith, within.1, less)) (omega (arith, more, l)))
-            (some_slots s.from s.end (first_slot (right_of k)) (end_slot (right_of k)) (omega (arith, within.0, same, more)) (omega (arith, within.1, r)) (omega (arith, less, same, r)))
-            (no_cuts s.from s.end (first_slot (left_of k)) (end_slot (left_of k)) (left_of k).level (omega (arith, within.0, l)) (omega (arith, within.1, less)))
-            (no_cuts s.from s.end (first_slot (right_of k)) (end_slot (right_of k)) (right_of k).level (omega (arith, within.0, same, more)) (omega (arith, within.1, r)))
+        | inr within ↦ sum_whole n1 n2 n (most_cut s.from s.end (left_of k)) (most_cut s.from s.end (right_of k))
+            (most_cut s.from s.end k) sum
+            (some_slots s.from s.end (first_slot (left_of k)) (end_slot (left_of k)) (omega (arith, within.0, l))
+            (omega (arith, within.1, less)) (omega (arith, more, l)))
+            (some_slots s.from s.end (first_slot (right_of k)) (end_slot (right_of k)) (omega (arith, within.0, same, more))
+            (omega (arith, within.1, r)) (omega (arith, less, same, r)))
+            (no_cuts s.from s.end (first_slot (left_of k)) (end_slot (left_of k)) (left_of k).level (omega (arith, within.0, l))
+            (omega (arith, within.1, less)))
+            (no_cuts s.from s.end (first_slot (right_of k)) (end_slot (right_of k)) (right_of k).level (omega (arith, within.0, same, more))
+            (omega (arith, within.1, r)))
       ]
     ]
   where
-    slots_sum : (a b first middle end f e : ℕ) → f ≡ first → e ≡ end → first < middle → middle < end → min b end - max a first ≡ (min b middle - max a f) + (min b e - max a middle)
+    slots_sum : (a b first middle end f e : ℕ) → f ≡ first → e ≡ end → first < middle → middle < end
+        → min b end - max a first ≡ (min b middle - max a f) + (min b e - max a middle)
     slots_sum a b first middle end f e p q more less = omega (arith, p, q)
 
     some_slots : (a b first end : ℕ) → a ≤ first → end ≤ b → first < end → 1 ≤ min b end - max a first
     some_slots a b first end from to some = omega arith
 
-pub halves_asks : (s : Scan) (k left right : Key) → 1 ≤ k.level → Meets s k → left ≡ left_of k → right ≡ right_of k → 1 + most_asks s left + most_asks s right ≤ most_asks s k
+pub halves_asks : (s : Scan) (k left right : Key) → 1 ≤ k.level → Meets s k → left ≡ left_of k → right ≡ right_of k
+    → 1 + most_asks s left + most_asks s right ≤ most_asks s k
 halves_asks s k left right low meets l r = omega (arith, halves_of s k low meets, ap (most_asks s) l, ap (most_asks s) r)
 
 -- the reads of a walk below the halves
-pub reads_once : (s : Scan) (k left right : Key) (before asked : ℕ) → 1 ≤ k.level → Meets s k → left ≡ left_of k → right ≡ right_of k → asked ≤ before + 1 → asked ≤ before + most_asks s k
+pub reads_once : (s : Scan) (k left right : Key) (before asked : ℕ) → 1 ≤ k.level → Meets s k → left ≡ left_of k → right ≡ right_of k
+    → asked ≤ before + 1 → asked ≤ before + most_asks s k
 reads_once s k left right before asked low meets l r one = omega (arith, halves_asks s k left right low meets l r, one)
 
-pub reads_first : (s : Scan) (k left right : Key) (before asked first : ℕ) → 1 ≤ k.level → Meets s k → left ≡ left_of k → right ≡ right_of k → asked ≤ before + 1
+pub reads_first : (s : Scan) (k left right : Key) (before asked first : ℕ) → 1 ≤ k.level → Meets s k → left ≡ left_of k → right ≡ right_of k
+    → asked ≤ before + 1
     → first ≤ asked + most_asks s left → first ≤ before + most_asks s k
 reads_first s k left right before asked first low meets l r one p = omega (arith, halves_asks s k left right low meets l r, one, p)
 
-pub reads_both : (s : Scan) (k left right : Key) (before asked first second : ℕ) → 1 ≤ k.level → Meets s k → left ≡ left_of k → right ≡ right_of k → asked ≤ before + 1
+pub reads_both : (s : Scan) (k left right : Key) (before asked first second : ℕ) → 1 ≤ k.level → Meets s k → left ≡ left_of k
+    → right ≡ right_of k → asked ≤ before + 1
     → first ≤ asked + most_asks s left → second ≤ first + most_asks s right → second ≤ before + most_asks s k
-reads_both s k left right before asked first second low meets l r one p q = omega (arith, halves_asks s k left right low meets l r, one, p, q)
+reads_both s k left right before asked first second low meets l r one p q = omega (
+  arith,
+  halves_asks s k left right low meets l r,
+  one,
+  p,
+  q,
+)
 
 -- the two ways down below a key that is taken as a whole have no more keys than it has slots
 far_up : (d : ℕ) → 2 * (3 + d) + 1 ≤ 2 ^ (3 + d)
 far_up zero = omega arith
 far_up (suc d) =
-    let double : 2 ^ (3 + suc d) ≡ 2 * 2 ^ (3 + d) = (let e : 3 + suc d ≡ suc (3 + d) = omega arith in ap (λ n. 2 ^ n) e ∙ pow-succ' 2 (3 + d)) in
+    let double : 2 ^ (3 + suc d) ≡ 2 * 2 ^ (3 + d) = (let e : 3 + suc d ≡ suc (3 + d) = omega arith in
+    ap (λ n. 2 ^ n) e ∙ pow-succ' 2 (3 + d)) in
     omega (arith, double, far_up d)
 
 slots_up : (l : ℕ) → 3 ≤ l → 2 * l + 1 ≤ 2 ^ l
@@ -119,7 +139,8 @@ asks_most : (n c : ℕ) → asks_of n c ≤ n + c
 asks_most zero c = omega arith
 asks_most (suc n) c = omega arith
 
-pub top_asks : (s : Scan) (n m before after : ℕ) (top : Key) → n ≡ m → top ≡ top_key n → after ≤ before + most_asks s top → after ≤ before + ((s.end - s.from) + 2 * height m)
+pub top_asks : (s : Scan) (n m before after : ℕ) (top : Key) → n ≡ m → top ≡ top_key n → after ≤ before + most_asks s top
+    → after ≤ before + ((s.end - s.from) + 2 * height m)
 unfolding most_asks
 top_asks s n m before after top same is h =
     omega (

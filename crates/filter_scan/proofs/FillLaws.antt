@@ -1,5 +1,6 @@
 -- How a table fills, range by range.
-use Rattle.std.proofs.Common.{ℕ, ℤ, ◌≡◌, ◌+◌, ◌*◌, ◌^◌, ◌<◌, ◌≤◌, ◌⊎◌, inl, inr, arith, List, length, sym, ◌∙◌, ap, subst, get_or-set_same, get_or-set_other}
+use Rattle.std.proofs.Common.{ℕ, ℤ, ◌≡◌, ◌+◌, ◌*◌, ◌^◌, ◌<◌, ◌≤◌, ◌⊎◌, inl, inr, arith, List, length, sym, ◌∙◌, ap, subst, get_or-set_same}
+use Rattle.std.proofs.Common.{get_or-set_other}
 use Rattle.std.proofs.lemmas.Bool.{cases_lt}
 use Rattle.std.proofs.lemmas.Int.{ints}
 use Rattle.std.proofs.lemmas.Option.{same_Some}
@@ -27,7 +28,8 @@ use Rattle.filter_scan.specs.Ends.{IsWholeRow}
 use Rattle.filter_scan.proofs.Merging.{row_more, row_same}
 
 -- nothing was taken before the first slot
-pub fills_start : (s : Scan) (f : Option (List Step)) (list : List (Option ℤ)) (n : ℕ) (table : List (Option Row)) → n ≡ 0 → ((c : ℕ) → entry table c ≡ None) → Fills s f list n table
+pub fills_start : (s : Scan) (f : Option (List Step)) (list : List (Option ℤ)) (n : ℕ) (table : List (Option Row)) → n ≡ 0
+    → ((c : ℕ) → entry table c ≡ None) → Fills s f list n table
 fills_start s f list n table zero none = record {
   each = λ c.
       let P : Option Row → Type 0 = λ o. IsRowIn (Takes s f c) list 0 n o in
@@ -35,7 +37,8 @@ fills_start s f list n table zero none = record {
 }
 
 -- nothing is taken of a range
-pub fills_none : (s : Scan) (f : Option (List Step)) (list : List (Option ℤ)) (a b : ℕ) (table : List (Option Row)) → a ≤ b → ((c : ℕ) → IsNoneTaken (Takes s f c) list a b) → Fills s f list a table → Fills s f list b table
+pub fills_none : (s : Scan) (f : Option (List Step)) (list : List (Option ℤ)) (a b : ℕ) (table : List (Option Row)) → a ≤ b
+    → ((c : ℕ) → IsNoneTaken (Takes s f c) list a b) → Fills s f list a table → Fills s f list b table
 fills_none s f list a b table le none h = record { each = λ c. row_same (Takes s f c) list 0 a b (entry table c) le (h.each c) (none c) }
 
 -- the row of a range is put into the table
@@ -73,7 +76,8 @@ fills_row s f list a b old r le short is none h = record { each = λ c. at c }
         ]
 
 -- a key without a span
-pub fills_missing : (view : NodesView) (s : Scan) (f : Option (List Step)) (list : List (Option ℤ)) (k : Key) (o : Option Span) (table : List (Option Row)) → o ≡ None
+pub fills_missing : (view : NodesView) (s : Scan) (f : Option (List Step)) (list : List (Option ℤ)) (k : Key) (o : Option Span)
+    (table : List (Option Row)) → o ≡ None
     → Agrees view list → IsReached view k o → Fills s f list (first_slot k) table → Fills s f list (end_slot k) table
 fills_missing view s f list k o table is agrees reached h =
     let none : span list k ≡ None = sym (reached_span view list k o agrees reached) ∙ is in
@@ -81,13 +85,15 @@ fills_missing view s f list k o table is agrees reached h =
     (λ c i v t. none-clear list (first_slot k) (end_slot k) none i v t.low t.high t.holds) h
 
 -- the values of a key's range lie in its span
-pub extremes_of : (view : NodesView) (list : List (Option ℤ)) (k : Key) (o : Option Span) (t : Span) → o ≡ Some t → Agrees view list → IsReached view k o → AreExtremes list (first_slot k) (end_slot k) t
+pub extremes_of : (view : NodesView) (list : List (Option ℤ)) (k : Key) (o : Option Span) (t : Span) → o ≡ Some t → Agrees view list
+    → IsReached view k o → AreExtremes list (first_slot k) (end_slot k) t
 extremes_of view list k o t is agrees reached =
     let P : Option Span → Type 0 = λ s. IsSpanOf list (first_slot k) (end_slot k) s in
     subst P (sym (reached_span view list k o agrees reached) ∙ is) (span_over_is list (first_slot k) (end_slot k))
 
 -- a key of which nothing is taken
-pub fills_nothing : (view : NodesView) (s : Scan) (f : Option (List Step)) (list : List (Option ℤ)) (k : Key) (o : Option Span) (t : Span) (table : List (Option Row)) → o ≡ Some t
+pub fills_nothing : (view : NodesView) (s : Scan) (f : Option (List Step)) (list : List (Option ℤ)) (k : Key) (o : Option Span) (t : Span)
+    (table : List (Option Row)) → o ≡ Some t
     → TakesNone s f k t → Agrees view list → IsReached view k o → Fills s f list (first_slot k) table → Fills s f list (end_slot k) table
 fills_nothing view s f list k o t table is none agrees reached h =
     let ends : AreExtremes list (first_slot k) (end_slot k) t = extremes_of view list k o t is agrees reached in
@@ -95,7 +101,8 @@ fills_nothing view s f list k o t table is none agrees reached h =
     (λ c i v u. none.none c i v u.low u.high (ends.above i v u.low u.high u.holds) (ends.below i v u.low u.high u.holds) u.takes) h
 
 -- a key of which everything is taken
-whole_row : (s : Scan) (f : Option (List Step)) (list : List (Option ℤ)) (k : Key) (t : Span) (r : Row) → TakesAll s f k t r.column → AreExtremes list (first_slot k) (end_slot k) t
+whole_row : (s : Scan) (f : Option (List Step)) (list : List (Option ℤ)) (k : Key) (t : Span) (r : Row) → TakesAll s f k t r.column
+    → AreExtremes list (first_slot k) (end_slot k) t
     → IsWholeRow list (first_slot k) (end_slot k) r → IsRowOf (Takes s f r.column) list (first_slot k) (end_slot k) r
 whole_row s f list k t r all ends h = record {
   first_at = h.first.0;
@@ -112,7 +119,8 @@ whole_row s f list k t r all ends h = record {
   behind = λ i v less u. h.last.1.3 i v (omega arith) u.high u.holds;
 }
   where
-    taken : (i : ℕ) (v : ℤ) → first_slot k ≤ i → i < end_slot k → Holds list i v → IsTaken (Takes s f r.column) list (first_slot k) (end_slot k) i v
+    taken : (i : ℕ) (v : ℤ) → first_slot k ≤ i → i < end_slot k → Holds list i v
+        → IsTaken (Takes s f r.column) list (first_slot k) (end_slot k) i v
     taken i v low high holds = record {
       low = low;
       high = high;
@@ -120,8 +128,10 @@ whole_row s f list k t r all ends h = record {
       takes = all.each i v low high (ends.above i v low high holds) (ends.below i v low high holds);
     }
 
-pub fills_whole : (view : NodesView) (s : Scan) (f : Option (List Step)) (list : List (Option ℤ)) (k : Key) (o : Option Span) (t : Span) (c : ℕ) (old new : List (Option Row)) (r : Row) → o ≡ Some t
-    → TakesAll s f k t c → r.column ≡ c → length old ≡ s.grid.w → new ≡ with_row old r → Agrees view list → IsReached view k o → IsWholeRow list (first_slot k) (end_slot k) r
+pub fills_whole : (view : NodesView) (s : Scan) (f : Option (List Step)) (list : List (Option ℤ)) (k : Key) (o : Option Span) (t : Span)
+    (c : ℕ) (old new : List (Option Row)) (r : Row) → o ≡ Some t
+    → TakesAll s f k t c → r.column ≡ c → length old ≡ s.grid.w → new ≡ with_row old r → Agrees view list → IsReached view k o
+    → IsWholeRow list (first_slot k) (end_slot k) r
     → Fills s f list (first_slot k) old → Fills s f list (end_slot k) new
 fills_whole view s f list k o t c old new r is all at sized e agrees reached whole h =
     let P : List (Option Row) → Type 0 = λ table. Fills s f list (end_slot k) table in
@@ -142,7 +152,8 @@ slot_first k zero = let width : 2 ^ k.level ≡ 1 = ap (λ n. 2 ^ n) zero in ome
 one_value : (list : List (Option ℤ)) (i j : ℕ) (u v : ℤ) → Holds list i u → Holds list j v → i ≡ j → u ≡ v
 one_value list i j u v p q e = same_Some u v (same_Some (Some u) (Some v) (sym p ∙ ap (slice_get list) e ∙ q))
 
-slot_row : (s : Scan) (f : Option (List Step)) (list : List (Option ℤ)) (i c : ℕ) (v : ℤ) → Holds list i v → Takes s f c i v → IsRowOf (Takes s f c) list i (i + 1) (row_of c v)
+slot_row : (s : Scan) (f : Option (List Step)) (list : List (Option ℤ)) (i c : ℕ) (v : ℤ) → Holds list i v → Takes s f c i v
+    → IsRowOf (Takes s f c) list i (i + 1) (row_of c v)
 slot_row s f list i c v holds takes = record {
   first_at = i;
   first = here;
@@ -164,7 +175,8 @@ slot_row s f list i c v holds takes = record {
     same : (j : ℕ) (u : ℤ) → IsTaken (Takes s f c) list i (i + 1) j u → v ≡ u
     same j u t = one_value list i j v u holds t.holds (omega (arith, t.low, t.high))
 
-slot_table : (s : Scan) (f : Option (List Step)) (list : List (Option ℤ)) (i : ℕ) (v : ℤ) (old new : List (Option Row)) → Holds list i v → length old ≡ s.grid.w → FillsSlot s f i v old new
+slot_table : (s : Scan) (f : Option (List Step)) (list : List (Option ℤ)) (i : ℕ) (v : ℤ) (old new : List (Option Row)) → Holds list i v
+    → length old ≡ s.grid.w → FillsSlot s f i v old new
     → Fills s f list i old → Fills s f list (i + 1) new
 slot_table s f list i v old new holds sized (inl none) h =
     let P : List (Option Row) → Type 0 = λ table. Fills s f list (i + 1) table in
@@ -189,26 +201,34 @@ slot_table s f list i v old new holds sized (inr some) h =
     moved : (j : ℕ) → j ≡ i → column s.grid (slot_time s.axis j) ≡ column s.grid (slot_time s.axis i)
     moved j e = ap (λ n. column s.grid (slot_time s.axis n)) e
 
-pub fills_slot : (view : NodesView) (s : Scan) (f : Option (List Step)) (list : List (Option ℤ)) (k : Key) (o : Option Span) (t : Span) (old new : List (Option Row)) → o ≡ Some t → k.level ≡ 0
-    → length old ≡ s.grid.w → FillsSlot s f k.index (cast_signed w64 (cast_unsigned w64 t.min)) old new → Agrees view list → IsReached view k o
+pub fills_slot : (view : NodesView) (s : Scan) (f : Option (List Step)) (list : List (Option ℤ)) (k : Key) (o : Option Span) (t : Span)
+    (old new : List (Option Row)) → o ≡ Some t → k.level ≡ 0
+    → length old ≡ s.grid.w → FillsSlot s f k.index (cast_signed w64 (cast_unsigned w64 t.min)) old new → Agrees view list
+    → IsReached view k o
     → Fills s f list (first_slot k) old → Fills s f list (end_slot k) new
 fills_slot view s f list k o t old new is zero sized slot agrees reached h =
     let P : ℕ → Type 0 = λ n. Fills s f list n old in
     let Q : ℕ → Type 0 = λ n. Fills s f list n new in
     subst Q (sym (slot_end k zero))
-    (slot_table s f list k.index (cast_signed w64 (cast_unsigned w64 t.min)) old new (holds_here view list k o t agrees reached is zero) sized slot (subst P (slot_first k zero) h))
+    (slot_table s f list k.index (cast_signed w64 (cast_unsigned w64 t.min)) old new
+    (holds_here view list k o t agrees reached is zero) sized slot (subst P (slot_first k zero) h))
 
 -- the halves of a key
-pub fills_left : (s : Scan) (f : Option (List Step)) (list : List (Option ℤ)) (k left : Key) (table : List (Option Row)) → 1 ≤ k.level → left ≡ left_of k
+pub fills_left : (s : Scan) (f : Option (List Step)) (list : List (Option ℤ)) (k left : Key) (table : List (Option Row)) → 1 ≤ k.level
+    → left ≡ left_of k
     → Fills s f list (first_slot k) table → Fills s f list (first_slot left) table
-fills_left s f list k left table low is h = let P : ℕ → Type 0 = λ n. Fills s f list n table in subst P (sym (left_first k low) ∙ ap first_slot (sym is)) h
+fills_left s f list k left table low is h = let P : ℕ → Type 0 = λ n. Fills s f list n table in
+    subst P (sym (left_first k low) ∙ ap first_slot (sym is)) h
 
-pub fills_middle : (s : Scan) (f : Option (List Step)) (list : List (Option ℤ)) (k left right : Key) (table : List (Option Row)) → 1 ≤ k.level → left ≡ left_of k → right ≡ right_of k
+pub fills_middle : (s : Scan) (f : Option (List Step)) (list : List (Option ℤ)) (k left right : Key) (table : List (Option Row))
+    → 1 ≤ k.level → left ≡ left_of k → right ≡ right_of k
     → Fills s f list (end_slot left) table → Fills s f list (first_slot right) table
 fills_middle s f list k left right table low l r h =
     let P : ℕ → Type 0 = λ n. Fills s f list n table in
     let e : end_slot left ≡ first_slot right = omega (arith, ap end_slot l, ap first_slot r) in subst P e h
 
-pub fills_right : (s : Scan) (f : Option (List Step)) (list : List (Option ℤ)) (k right : Key) (table : List (Option Row)) → 1 ≤ k.level → right ≡ right_of k
+pub fills_right : (s : Scan) (f : Option (List Step)) (list : List (Option ℤ)) (k right : Key) (table : List (Option Row)) → 1 ≤ k.level
+    → right ≡ right_of k
     → Fills s f list (end_slot right) table → Fills s f list (end_slot k) table
-fills_right s f list k right table low is h = let P : ℕ → Type 0 = λ n. Fills s f list n table in subst P (ap end_slot is ∙ right_end k low) h
+fills_right s f list k right table low is h = let P : ℕ → Type 0 = λ n. Fills s f list n table in
+    subst P (ap end_slot is ∙ right_end k low) h

@@ -15,7 +15,8 @@ use Rattle.filter_scan.specs.Table.{IsColumnRow}
 use Rattle.filter_scan.specs.Taken.{row_of}
 
 -- a range whose first and whose last slot have one column
-between : (s : Scan) (a b i : ℕ) → s.from ≤ a → a ≤ i → i ≤ b → b < s.end → column s.grid (slot_time s.axis a) ≡ column s.grid (slot_time s.axis b)
+between : (s : Scan) (a b i : ℕ) → s.from ≤ a → a ≤ i → i ≤ b → b < s.end
+    → column s.grid (slot_time s.axis a) ≡ column s.grid (slot_time s.axis b)
     → column s.grid (slot_time s.axis i) ≡ column s.grid (slot_time s.axis a)
 between s a b i from low high to same =
     let first : InWindow s.grid (slot_time s.axis a) = s.shown.each a from (omega arith) in
@@ -28,14 +29,16 @@ between s a b i from low high to same =
       column-rising s.grid (slot_time s.axis i) (slot_time s.axis b) here last (time_rises s.axis i b high),
     )
 
-pub inside : (s : Scan) (k : Key) (first end c d : ℕ) → 3 ≤ k.level → first ≡ first_slot k → end ≡ end_slot k → s.from ≤ first → end ≤ s.end → first < end
+pub inside : (s : Scan) (k : Key) (first end c d : ℕ) → 3 ≤ k.level → first ≡ first_slot k → end ≡ end_slot k → s.from ≤ first → end ≤ s.end
+    → first < end
     → c ≡ column s.grid (slot_time s.axis first) → d ≡ column s.grid (slot_time s.axis (end - 1)) → d ≡ c → c < s.grid.w → IsInside s k c
 inside s k first end c d level f e from to some here there same drawn = record {
   level = level;
   from = omega (arith, f, from);
   to = omega (arith, e, to);
   place = λ i low high.
-      between s first (end - 1) i from (omega (arith, f, low)) (omega (arith, e, high)) (omega (arith, to, some)) (sym here ∙ sym same ∙ there) ∙ sym here;
+      between s first (end - 1) i from (omega (arith, f, low)) (omega (arith, e, high)) (omega (arith, to, some)) (sym here ∙ sym same
+      ∙ there) ∙ sym here;
   drawn = drawn;
 }
 

@@ -1,5 +1,6 @@
 -- The rows of a table.
-use Rattle.std.proofs.Common.{ℕ, ℤ, zero, suc, ◌≡◌, ◌+◌, ◌<◌, ◌≤ℤ◌, inl, inr, arith, List, [], ◌∷◌, ◌++◌, take, length, get_or, refl, sym, ◌∙◌, ap, subst, get_or-set_same, get_or-set_other}
+use Rattle.std.proofs.Common.{ℕ, ℤ, zero, suc, ◌≡◌, ◌+◌, ◌<◌, ◌≤ℤ◌, inl, inr, arith, List, [], ◌∷◌, ◌++◌, take, length, get_or, refl, sym}
+use Rattle.std.proofs.Common.{◌∙◌, ap, subst, get_or-set_same, get_or-set_other}
 use Rattle.std.proofs.lemmas.Int.{ints}
 use Rattle.std.proofs.lemmas.Bool.{cases_lt}
 use Rattle.std.proofs.lemmas.List.{take_more, get_or_past}
@@ -23,19 +24,23 @@ entries-push [] (Some r) = refl
 entries-push (None ∷ xs) o = entries-push xs o
 entries-push (Some r ∷ xs) o = ap (λ rs. r ∷ rs) (entries-push xs o)
 
-pub entries_more : (table : List (Option Row)) (i : ℕ) (d : Option Row) (rows later : List Row) → i < length table → rows ≡ entries (take i table)
+pub entries_more : (table : List (Option Row)) (i : ℕ) (d : Option Row) (rows later : List Row) → i < length table
+    → rows ≡ entries (take i table)
     → later ≡ rows ++ entries (get_or table i d ∷ []) → later ≡ entries (take (i + 1) table)
 entries_more table i d rows later short before e =
-    e ∙ ap (λ rs. rs ++ entries (get_or table i d ∷ [])) before ∙ sym (entries-push (take i table) (get_or table i d)) ∙ ap entries (sym (take_more table i d short))
+    e ∙ ap (λ rs. rs ++ entries (get_or table i d ∷ [])) before ∙ sym (entries-push (take i table) (get_or table i d))
+    ∙ ap entries (sym (take_more table i d short))
 
 -- what holds of each row
-pub entries_each : (P : Row → Type 0) (table : List (Option Row)) → ((c : ℕ) (r : Row) → entry table c ≡ Some r → P r) → All P (entries table)
+pub entries_each : (P : Row → Type 0) (table : List (Option Row)) → ((c : ℕ) (r : Row) → entry table c ≡ Some r → P r)
+    → All P (entries table)
 entries_each P [] each = All-nil P
 entries_each P (None ∷ table) each = entries_each P table (λ c r e. each (suc c) r e)
 entries_each P (Some q ∷ table) each = All-cons P q (entries table) (each 0 q refl) (entries_each P table (λ c r e. each (suc c) r e))
 
 -- the columns rise
-rising_from : (n : ℕ) (table : List (Option Row)) → ((c : ℕ) (r : Row) → entry table c ≡ Some r → r.column ≡ n + c) → AreRising (entries table)
+rising_from : (n : ℕ) (table : List (Option Row)) → ((c : ℕ) (r : Row) → entry table c ≡ Some r → r.column ≡ n + c)
+    → AreRising (entries table)
 rising_from n [] at = AllPairs-none (λ r s. r.column < s.column)
 rising_from n (None ∷ table) at = rising_from (n + 1) table (λ c r e. (let h : r.column ≡ n + suc c = at (suc c) r e in omega (arith, h)))
 rising_from n (Some q ∷ table) at =
@@ -57,7 +62,8 @@ entry_listed (Some q ∷ table) zero r e =
     subst P (same_Some q r e) (Contains-here q.column (columns_of (entries table)))
 entry_listed (Some q ∷ table) (suc c) r e = Contains-later q.column r.column (columns_of (entries table)) (entry_listed table c r e)
 
-pub listed : (table : List (Option Row)) (c : ℕ) (r : Row) → AreShown table → entry table c ≡ Some r → Contains (columns_of (entries table)) c
+pub listed : (table : List (Option Row)) (c : ℕ) (r : Row) → AreShown table → entry table c ≡ Some r
+    → Contains (columns_of (entries table)) c
 listed table c r h e =
     let P : ℕ → Type 0 = λ d. Contains (columns_of (entries table)) d in
     subst P (h.each c r e).column (entry_listed table c r e)
@@ -122,7 +128,8 @@ some_shown : (c : ℕ) (o : Option Row) → ((r : Row) → o ≡ Some r → IsCo
 some_shown c None each = tt
 some_shown c (Some r) each = each r refl
 
-pub shown_more : (c : ℕ) (old new : List (Option Row)) (r : Row) → c < length old → IsColumnRow c r → new ≡ with_row old r → AreShown old → AreShown new
+pub shown_more : (c : ℕ) (old new : List (Option Row)) (r : Row) → c < length old → IsColumnRow c r → new ≡ with_row old r → AreShown old
+    → AreShown new
 shown_more c old new r short row is h =
     let P : List (Option Row) → Type 0 = AreShown in
     subst P (sym is) (record { each = λ d q e. at d q e })
@@ -138,7 +145,8 @@ shown_more c old new r short row is h =
         (subst P
         (same_Some (joined (entry old r.column) r) q
         (sym (get_or-set_same old r.column (Some (joined (entry old r.column) r)) None (omega (arith, place, short))) ∙ subst R same e))
-        (joined_shown r.column (entry old r.column) r (some_shown r.column (entry old r.column) (h.each r.column)) (subst S (sym place) row)))
+        (joined_shown r.column (entry old r.column) r (some_shown r.column (entry old r.column) (h.each r.column))
+        (subst S (sym place) row)))
 
     other : (d : ℕ) (q : Row) → d ≢ r.column → entry (with_row old r) d ≡ Some q → IsColumnRow d q
     other d q ne e = h.each d q (sym (get_or-set_other old r.column d (Some (joined (entry old r.column) r)) None ne) ∙ e)

@@ -20,4 +20,5 @@ IsCauseOf old new NoMemory = ⊤
 pub record HasRows (view : NodesView) (s : Scan) (f : Option (List Step)) (rows : List Row) : Type 0 where
   pub rising : AreRising rows
   pub shown : All (IsShownRow s.grid.w) rows
-  pub of_list : (list : List (Option ℤ)) → Agrees view list → AreRowsOf s.grid (sample_points (filter (passes f) (stored_in s.axis (s.from, s.end) list))) rows
+  pub of_list : (list : List (Option ℤ)) → Agrees view list
+      → AreRowsOf s.grid (sample_points (filter (passes f) (stored_in s.axis (s.from, s.end) list))) rows

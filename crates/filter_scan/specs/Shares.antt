@@ -16,7 +16,8 @@ use Rattle.filter_scan.specs.Taken.{Takes}
 
 -- at each of these slots the filter's truth at each value of the span is this
 pub record AllPass (s : Scan) (f : Option (List Step)) (a b : ℕ) (span : Span) (truth : Bool) : Type 0 where
-  pub each : (i : ℕ) (v : ℤ) → a ≤ i → i < b → span.min ≤ℤ v → v ≤ℤ span.max → passes f (record { time = slot_time s.axis i; value = v }) ≡ truth
+  pub each : (i : ℕ) (v : ℤ) → a ≤ i → i < b → span.min ≤ℤ v → v ≤ℤ span.max
+      → passes f (record { time = slot_time s.axis i; value = v }) ≡ truth
 
 -- what an answer on slots and a span says
 abbrev pub IsAnswerOn : Scan → Option (List Step) → ℕ × ℕ → Span → BoxAnswer → Type 0

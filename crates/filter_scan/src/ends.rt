@@ -26,7 +26,8 @@ pub(crate) fn end_value<N: Nodes>(
     requires reached { IsReached (N.view nodes.old) key (Some span) }
     requires follows { MayAsk (N.view nodes.old) key }
 
-    ensures list { (list : List (Option ℤ)) → Agrees (N.view nodes.old) list → IfOk result (IsEndValue side list (first_slot key) (end_slot key)) }
+    ensures list { (list : List (Option ℤ)) → Agrees (N.view nodes.old) list
+        → IfOk result (IsEndValue side list (first_slot key) (end_slot key)) }
     ensures among { IfOk result (IsAmong span) }
     ensures fit { (N.view nodes.new).fit }
     ensures kept { N.keeps nodes.old nodes.new }

@@ -70,7 +70,8 @@ fn rows_by_table<N: Nodes>(
     ensures found { IfOk result (λ rows. HasRows (N.view nodes.old) scan.now filter.now rows.items) }
     ensures fit { (N.view nodes.new).fit }
     ensures kept { N.keeps nodes.old nodes.new }
-    ensures reads { (N.view nodes.new).reads ≤ (N.view nodes.old).reads + ((scan.now.end - scan.now.from) + 2 * height scan.now.axis.slots) }
+    ensures reads { (N.view nodes.new).reads ≤ (N.view nodes.old).reads + ((scan.now.end - scan.now.from) + 2 * height
+        scan.now.axis.slots) }
     ensures faults { (N.view nodes.old).faults ≤ (N.view nodes.new).faults }
     ensures cause { IfErr result (IsCauseOf (N.view nodes.old) (N.view nodes.new)) }
     ensures quiet { OnOk result ((N.view nodes.new).faults ≡ (N.view nodes.old).faults) }

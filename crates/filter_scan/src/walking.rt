@@ -85,7 +85,8 @@ fn whole_row<N: Nodes>(nodes: &mut N, column: u16, key: Key, span: Span) -> Resu
     requires follows { MayAsk (N.view nodes.old) key }
     requires low { 1 ≤ key.level }
 
-    ensures list { (list : List (Option ℤ)) → Agrees (N.view nodes.old) list → IfOk result (IsWholeRow list (first_slot key) (end_slot key)) }
+    ensures list { (list : List (Option ℤ)) → Agrees (N.view nodes.old) list
+        → IfOk result (IsWholeRow list (first_slot key) (end_slot key)) }
     ensures shown { IfOk result (IsColumnRow column) }
     ensures fit { (N.view nodes.new).fit }
     ensures kept { N.keeps nodes.old nodes.new }

@@ -1,5 +1,6 @@
 -- Pages are written home, one after another.
-use Rattle.std.proofs.Common.{◌≡◌, ℕ, ◌+◌, ◌-◌, ◌<◌, true, cond, eqb, List, [], length, take, get_or, refl, sym, ap, subst, arith, inl, inr, ◌∙◌, IsTrue}
+use Rattle.std.proofs.Common.{◌≡◌, ℕ, ◌+◌, ◌-◌, ◌<◌, true, cond, eqb, List, [], length, take, get_or, refl, sym, ap, subst, arith, inl, inr}
+use Rattle.std.proofs.Common.{◌∙◌, IsTrue}
 use Rattle.std.proofs.lemmas.Bool.Decides.{eqb_tells}
 use Rattle.std.proofs.lemmas.List.Folds.{list_any_at}
 use Rattle.std.proofs.Math.Path.{fun_ext}
@@ -11,7 +12,8 @@ use Rattle.gate_pages.specs.Steps.{IsHome}
 use Rattle.gate_pages.proofs.Puts.{put_step, same_number}
 
 -- a block is written where a page lies
-pub home_put : (n : ℕ) (page : List ℕ) (old new : Image) → new (66 + n) ≡ page → SameOff (At (66 + n)) old new → home new ≡ put n page (home old)
+pub home_put : (n : ℕ) (page : List ℕ) (old new : Image) → new (66 + n) ≡ page → SameOff (At (66 + n)) old new
+    → home new ≡ put n page (home old)
 home_put n page old new there same = fun_ext (λ number. elim (eqb_tells number n) [
   | inl is ↦
       let turned : number + 66 ≡ 66 + n = omega (arith, is.1) in
@@ -19,8 +21,10 @@ home_put n page old new there same = fun_ext (λ number. elim (eqb_tells number 
   | inr other ↦ same (number + 66) (λ is. other.1 (omega (arith, is))) ∙ sym (ap (λ b. cond b page (home old number)) other.0)
 ])
 
-pub home_step : (batch : List Entry) (at n : ℕ) (page : List ℕ) (pages old new : Image) → at < length batch → IsTrue (is_distinct (numbers batch)) → get_or batch at (0, []) ≡ (n, page)
-    → home old ≡ put_all (take at batch) pages → new (66 + n) ≡ page → SameOff (At (66 + n)) old new → home new ≡ put_all (take (at + 1) batch) pages
+pub home_step : (batch : List Entry) (at n : ℕ) (page : List ℕ) (pages old new : Image) → at < length batch
+    → IsTrue (is_distinct (numbers batch)) → get_or batch at (0, []) ≡ (n, page)
+    → home old ≡ put_all (take at batch) pages → new (66 + n) ≡ page → SameOff (At (66 + n)) old new
+    → home new ≡ put_all (take (at + 1) batch) pages
 home_step batch at n page pages old new below distinct is so_far there same =
     home_put n page old new there same
     ∙ ap (λ (i : Image). put n page i) so_far

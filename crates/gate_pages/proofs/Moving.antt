@@ -16,13 +16,16 @@ sent_same old new images passes = elim (cases_lt old.clock new.clock) [
 ]
 
 -- one stretch of time after another
-pub time_then : (old mid new : View) (images : Image → Type 0) → Passes old mid images (Quiet old) → Passes mid new images (Quiet mid) → Passes old new images (Quiet old)
+pub time_then : (old mid new : View) (images : Image → Type 0) → Passes old mid images (Quiet old) → Passes mid new images (Quiet mid)
+    → Passes old new images (Quiet old)
 time_then old mid new images first second =
     passes_then old mid new images (Quiet old) first
-    (passes_weaker mid new images images (Quiet mid) (Quiet old) (λ image left. left) (λ count quiet. quiet ∙ sent_same old mid images first) second)
+    (passes_weaker mid new images images (Quiet mid) (Quiet old) (λ image left. left) (λ count quiet. quiet
+    ∙ sent_same old mid images first) second)
 
 -- what may be left after a call is what might be left before it, but at the blocks that it touched
-pub moves_now : (touched : ℕ → Type 0) (reads syncs writes : ℕ) (old new : View) (image : Image) → Moves touched reads syncs writes old new → Now new image → TornOff touched (Now old) image
+pub moves_now : (touched : ℕ → Type 0) (reads syncs writes : ℕ) (old new : View) (image : Image) → Moves touched reads syncs writes old new
+    → Now new image → TornOff touched (Now old) image
 moves_now touched reads syncs writes old new image moves left = elim (cases_lt old.clock new.clock) [
   | inl moved ↦ moves.time.here new.clock image moved (omega arith) left
   | inr stood ↦
@@ -38,14 +41,18 @@ rises_weaker : (most more old new : ℕ) → most ≤ more → Rises most old ne
 rises_weaker most more old new within one = record { low = one.low; high = omega (arith, one.high, within) }
 
 -- calls in a row
-pub moves_then : (touched : ℕ → Type 0) (reads syncs writes reads' syncs' writes' : ℕ) (old mid new : View) → Moves touched reads syncs writes old mid → Moves touched reads' syncs' writes' mid new → Moves touched (reads + reads') (syncs + syncs') (writes + writes') old new
+pub moves_then : (touched : ℕ → Type 0) (reads syncs writes reads' syncs' writes' : ℕ) (old mid new : View)
+    → Moves touched reads syncs writes old mid → Moves touched reads' syncs' writes' mid new
+    → Moves touched (reads + reads') (syncs + syncs') (writes + writes') old new
 moves_then touched reads syncs writes reads' syncs' writes' old mid new first second =
     let torn : (image : Image) → TornOff touched (Now mid) image → TornOff touched (Now old) image =
     λ image left.
     let back = moves_now touched reads syncs writes old mid left.from first left.was in
     record { from = back.from; was = back.was; same = λ number free. left.same number free ∙ back.same number free } in
     record {
-      time = time_then old mid new (TornOff touched (Now old)) first.time (passes_weaker mid new (TornOff touched (Now mid)) (TornOff touched (Now old)) (Quiet mid) (Quiet mid) torn (λ count quiet. quiet) second.time);
+      time = time_then old mid new (TornOff touched (Now old)) first.time
+          (passes_weaker mid new (TornOff touched (Now mid)) (TornOff touched (Now old)) (Quiet mid) (Quiet mid) torn
+          (λ count quiet. quiet) second.time);
       honest = λ honest. second.honest (first.honest honest);
       was_honest = λ honest. first.was_honest (second.was_honest honest);
       off = λ honest number free. second.off (first.honest honest) number free ∙ first.off honest number free;
@@ -59,10 +66,16 @@ moves_then touched reads syncs writes reads' syncs' writes' old mid new first se
     }
 
 -- fewer blocks and fewer calls
-pub moves_weaker : (touched touched' : ℕ → Type 0) (reads syncs writes reads' syncs' writes' : ℕ) (old new : View) → ((number : ℕ) → touched number → touched' number) → reads ≤ reads' → syncs ≤ syncs' → writes ≤ writes' → Moves touched reads syncs writes old new → Moves touched' reads' syncs' writes' old new
+pub moves_weaker : (touched touched' : ℕ → Type 0) (reads syncs writes reads' syncs' writes' : ℕ) (old new : View)
+    → ((number : ℕ) → touched number → touched' number) → reads ≤ reads' → syncs ≤ syncs' → writes ≤ writes'
+    → Moves touched reads syncs writes old new → Moves touched' reads' syncs' writes' old new
 moves_weaker touched touched' reads syncs writes reads' syncs' writes' old new more more_reads more_syncs more_writes moves = record {
   time = passes_weaker old new (TornOff touched (Now old)) (TornOff touched' (Now old)) (Quiet old) (Quiet old)
-      (λ image torn. record { from = torn.from; was = torn.was; same = λ number free. torn.same number (λ in_less. free (more number in_less)) })
+      (λ image torn. record {
+        from = torn.from;
+        was = torn.was;
+        same = λ number free. torn.same number (λ in_less. free (more number in_less));
+      })
       (λ count quiet. quiet) moves.time;
   honest = moves.honest;
   was_honest = moves.was_honest;
@@ -77,25 +90,33 @@ moves_weaker touched touched' reads syncs writes reads' syncs' writes' old new m
 }
 
 -- calls in a row, told of more blocks and more calls
-pub moves_on : {touched touched' touched'' : ℕ → Type 0} {reads syncs writes reads' syncs' writes' reads'' syncs'' writes'' : ℕ} {old mid new : View}
+pub moves_on : {touched touched' touched'' : ℕ → Type 0} {reads syncs writes reads' syncs' writes' reads'' syncs'' writes'' : ℕ}
+    {old mid new : View}
     → ((number : ℕ) → touched number → touched'' number) → ((number : ℕ) → touched' number → touched'' number)
     → reads + reads' ≤ reads'' → syncs + syncs' ≤ syncs'' → writes + writes' ≤ writes''
-    → Moves touched reads syncs writes old mid → Moves touched' reads' syncs' writes' mid new → Moves touched'' reads'' syncs'' writes'' old new
-moves_on {touched} {touched'} {touched''} {reads} {syncs} {writes} {reads'} {syncs'} {writes'} {reads''} {syncs''} {writes''} {old} {mid} {new} more more' few_reads few_syncs few_writes first second =
-    moves_weaker touched'' touched'' (reads + reads') (syncs + syncs') (writes + writes') reads'' syncs'' writes'' old new (λ number is. is) few_reads few_syncs few_writes
+    → Moves touched reads syncs writes old mid → Moves touched' reads' syncs' writes' mid new
+    → Moves touched'' reads'' syncs'' writes'' old new
+moves_on {touched} {touched'} {touched''} {reads} {syncs} {writes} {reads'} {syncs'} {writes'} {reads''} {syncs''} {writes''} {old} {mid}
+    {new} more more' few_reads few_syncs few_writes first second =
+    moves_weaker touched'' touched'' (reads + reads') (syncs + syncs') (writes + writes') reads'' syncs'' writes'' old new
+    (λ number is. is) few_reads few_syncs few_writes
     (moves_then touched'' reads syncs writes reads' syncs' writes' old mid new
     (moves_weaker touched touched'' reads syncs writes reads syncs writes old mid more (omega arith) (omega arith) (omega arith) first)
-    (moves_weaker touched' touched'' reads' syncs' writes' reads' syncs' writes' mid new more' (omega arith) (omega arith) (omega arith) second))
+    (moves_weaker touched' touched'' reads' syncs' writes' reads' syncs' writes' mid new more' (omega arith) (omega arith)
+    (omega arith) second))
 
 -- calls with a sync behind them
-pub moves_synced : {touched : ℕ → Type 0} {reads writes : ℕ} {old mid new : View} → Moves touched reads 0 writes old mid → Moves Nowhere 0 1 0 mid new → Moves touched reads 1 writes old new
-moves_synced first second = moves_on (λ number is. is) (λ number nothing. absurd nothing) (omega arith) (omega arith) (omega arith) first second
+pub moves_synced : {touched : ℕ → Type 0} {reads writes : ℕ} {old mid new : View} → Moves touched reads 0 writes old mid
+    → Moves Nowhere 0 1 0 mid new → Moves touched reads 1 writes old new
+moves_synced first second = moves_on (λ number is. is) (λ number nothing. absurd nothing) (omega arith) (omega arith)
+    (omega arith) first second
 
 -- fewer blocks and fewer calls, where the facts tell which
 pub moves_among : {touched touched' : ℕ → Type 0} {reads syncs writes reads' syncs' writes' : ℕ} {old new : View}
     → ((number : ℕ) → touched number → touched' number) → reads ≤ reads' → syncs ≤ syncs' → writes ≤ writes'
     → Moves touched reads syncs writes old new → Moves touched' reads' syncs' writes' old new
-moves_among {touched} {touched'} {reads} {syncs} {writes} {reads'} {syncs'} {writes'} {old} {new} more few_reads few_syncs few_writes moves =
+moves_among {touched} {touched'} {reads} {syncs} {writes} {reads'} {syncs'} {writes'} {old} {new} more few_reads few_syncs few_writes
+    moves =
     moves_weaker touched touched' reads syncs writes reads' syncs' writes' old new more few_reads few_syncs few_writes moves
 
 -- no call at all
@@ -135,7 +156,8 @@ pub honest_by : (view : View) (image : Image) → Only view.image (Now view) →
 honest_by view image only left = subst (Now view) (only image left) left
 
 -- at each moment of calls on a disk at rest there is the image that it had, but at the blocks that they touch
-pub moments_from : (touched : ℕ → Type 0) (reads syncs writes : ℕ) (old new : View) (images : Image → Type 0) → Moves touched reads syncs writes old new → Only old.image (Now old)
+pub moments_from : (touched : ℕ → Type 0) (reads syncs writes : ℕ) (old new : View) (images : Image → Type 0)
+    → Moves touched reads syncs writes old new → Only old.image (Now old)
     → ((image : Image) → SameOff touched old.image image → Honest old → images image) → Passes old new images (Quiet old)
 moments_from touched reads syncs writes old new images moves only at_each =
     passes_weaker old new (TornOff touched (Now old)) images (Quiet old) (Quiet old)
@@ -151,5 +173,6 @@ pub record Rests (property : Image → Type 0) (view : View) : Type 0 where
   pub is : Honest view → property view.image
 
 -- calls that end with nothing pending
-pub rested : (touched : ℕ → Type 0) (reads syncs writes : ℕ) (old new : View) (property : Image → Type 0) → Moves touched reads syncs writes old new → Only new.image (Now new) → (Honest old → property new.image) → Rests property new
+pub rested : (touched : ℕ → Type 0) (reads syncs writes : ℕ) (old new : View) (property : Image → Type 0)
+    → Moves touched reads syncs writes old new → Only new.image (Now new) → (Honest old → property new.image) → Rests property new
 rested touched reads syncs writes old new property moves only holds = record { only = only; is = λ honest. holds (moves.was_honest honest) }

@@ -41,14 +41,21 @@ module _ (old mid new : View) (asked : Moves Nowhere 0 0 0 old mid) where
   unwritten_back unwritten closed =
       let P : Image → Type 0 = λ i. is_open (i 0) ≡ false in
       moves_then Nowhere 0 0 0 1 1 0 old mid new asked
-      (unwritten (record { honest = asked.honest closed.honest; gate = subst P (sym (untouched 0 0 0 old mid asked closed.honest)) closed.gate }))
+      (unwritten (record {
+        honest = asked.honest closed.honest;
+        gate = subst P (sym (untouched 0 0 0 old mid asked closed.honest)) closed.gate;
+      }))
 
   -- the moments of what comes after
-  pub moments_back : (count : ℕ) → Passes mid new (StandsAsBefore count mid) (Quiet mid) → Passes old new (StandsAsBefore count old) (Quiet old)
+  pub moments_back : (count : ℕ) → Passes mid new (StandsAsBefore count mid) (Quiet mid)
+      → Passes old new (StandsAsBefore count old) (Quiet old)
   moments_back count passes =
       time_then old mid new (StandsAsBefore count old) (stands_quiet count 0 0 0 old mid asked)
-      (passes_weaker mid new (StandsAsBefore count mid) (StandsAsBefore count old) (Quiet mid) (Quiet mid) (λ image stands. stands_back count 0 0 0 old mid image asked stands) (λ sent quiet. quiet) passes)
+      (passes_weaker mid new (StandsAsBefore count mid) (StandsAsBefore count old) (Quiet mid) (Quiet mid)
+      (λ image stands. stands_back count 0 0 0 old mid image asked stands) (λ sent quiet. quiet) passes)
 
 -- the number of pages as it was told
-pub counted_moments : (count count' : ℕ) (old new : View) → count ≡ count' → Passes old new (StandsAsBefore count old) (Quiet old) → Passes old new (StandsAsBefore count' old) (Quiet old)
-counted_moments count count' old new same passes = let P : ℕ → Type 0 = λ n. Passes old new (StandsAsBefore n old) (Quiet old) in subst P same passes
+pub counted_moments : (count count' : ℕ) (old new : View) → count ≡ count' → Passes old new (StandsAsBefore count old) (Quiet old)
+    → Passes old new (StandsAsBefore count' old) (Quiet old)
+counted_moments count count' old new same passes = let P : ℕ → Type 0 = λ n. Passes old new (StandsAsBefore n old) (Quiet old) in
+    subst P same passes

@@ -12,10 +12,12 @@ use Rattle.gate_pages.proofs.Moving.{nothing_torn, untouched}
 use Rattle.gate_pages.proofs.Puts.{below_from_all, numbers_below}
 use Rattle.gate_pages.proofs.States.{closed_pages}
 
-pub reads_page : (count : ℕ) (sound : Bool) (old new : View) → Moves Nowhere 1 0 0 old new → Reads (Honest old) (Honest new) (pages_view count sound old) (pages_view count sound new)
+pub reads_page : (count : ℕ) (sound : Bool) (old new : View) → Moves Nowhere 1 0 0 old new
+    → Reads (Honest old) (Honest new) (pages_view count sound old) (pages_view count sound new)
 reads_page count sound old new moves = record {
   time = passes_pages count count sound sound old new (Quiet old) refl
-      (passes_weaker old new _ (Now old) (Quiet old) (Quiet old) (λ image torn. nothing_torn (Now old) image torn) (λ sent quiet. quiet) moves.time);
+      (passes_weaker old new _ (Now old) (Quiet old) (Quiet old) (λ image torn. nothing_torn (Now old) image torn)
+      (λ sent quiet. quiet) moves.time);
   told = moves.honest;
   was_told = moves.was_honest;
   image = λ honest. ap (λ i. pages_of count i) (untouched 1 0 0 old new moves honest);
@@ -29,12 +31,14 @@ reads_page count sound old new moves = record {
 }
 
 -- the page that a read gives
-pub page_read : (count : ℕ) (disk : View) (p : ℕ) (page : List ℕ) → IsClosed disk → Honest disk → page ≡ disk.image (66 + p) → page ≡ pages_of count disk.image p
+pub page_read : (count : ℕ) (disk : View) (p : ℕ) (page : List ℕ) → IsClosed disk → Honest disk → page ≡ disk.image (66 + p)
+    → page ≡ pages_of count disk.image p
 page_read count disk p page closed honest is =
     let turned : 66 + p ≡ p + 66 = omega arith in
     is ∙ ap disk.image turned ∙ ap (λ (i : Image). i p) (sym (closed_pages count disk.image (closed.gate honest)))
 
-pub commits_batch : (count : ℕ) (sound sound' : Bool) (batch : List Entry) (old new : View) → Moves Anywhere 0 4 (2 * length batch + 3) old new
+pub commits_batch : (count : ℕ) (sound sound' : Bool) (batch : List Entry) (old new : View)
+    → Moves Anywhere 0 4 (2 * length batch + 3) old new
     → Passes old new (λ image. IsReadable count image × BeforeOrAfter batch (pages_of count old.image) (pages_of count image)) (Quiet old)
     → Commits batch (Honest old) (Honest new) (pages_view count sound old) (pages_view count sound' new)
 commits_batch count sound sound' batch old new moves passes = record {
@@ -50,12 +54,14 @@ commits_batch count sound sound' batch old new moves passes = record {
 }
 
 -- the pages once a batch is home and the gate is closed
-pub committed : (count : ℕ) (batch : List Entry) (old new : View) → IsClosed old → IsClosed new → Honest old → Honest new → home new.image ≡ put_all batch (home old.image) → pages_of count new.image ≡ put_all batch (pages_of count old.image)
+pub committed : (count : ℕ) (batch : List Entry) (old new : View) → IsClosed old → IsClosed new → Honest old → Honest new
+    → home new.image ≡ put_all batch (home old.image) → pages_of count new.image ≡ put_all batch (pages_of count old.image)
 committed count batch old new closed closed' honest honest' lies =
     closed_pages count new.image (closed'.gate honest') ∙ lies
     ∙ ap (λ (i : Image). put_all batch i) (sym (closed_pages count old.image (closed.gate honest)))
 
-pub lies_within : (count size : ℕ) (batch : List Entry) → count + 66 < 2 ^ 32 → count + 66 ≤ size → AllBelow count batch → LiesWithin size (numbers batch)
+pub lies_within : (count size : ℕ) (batch : List Entry) → count + 66 < 2 ^ 32 → count + 66 ≤ size → AllBelow count batch
+    → LiesWithin size (numbers batch)
 lies_within count size batch most within below n is =
     let less = below_from_all count (numbers batch) n (numbers_below count batch below) is in
     omega (arith, less, most, within)

@@ -1,5 +1,7 @@
 -- Batches of pages put in their places.
-use Rattle.std.proofs.Common.{◌≡◌, ◌≢◌, ℕ, zero, suc, ◌+◌, ◌<◌, Bool, true, false, cond, eqb, ltb, not, ◌&&◌, ◌||◌, rules, List, [], ◌∷◌, ◌++◌, length, take, get_or, Option, Some, None, refl, sym, ap, subst, arith, inl, inr, ◌∙◌, IsSome, IsTrue, unwrap_or}
+use Rattle.std.proofs.Common.{◌≡◌, ◌≢◌, ℕ, zero, suc, ◌+◌, ◌<◌, Bool, true, false, cond, eqb, ltb, not, ◌&&◌, ◌||◌, rules, List, [], ◌∷◌}
+use Rattle.std.proofs.Common.{◌++◌, length, take, get_or, Option, Some, None, refl, sym, ap, subst, arith, inl, inr, ◌∙◌, IsSome, IsTrue}
+use Rattle.std.proofs.Common.{unwrap_or}
 use Rattle.std.proofs.lemmas.Bool.{cases_lt, le-ltb, lt-ltb}
 use Rattle.std.proofs.lemmas.Bool.Decides.{eqb_tells}
 use Rattle.std.proofs.Math.Path.{fun_ext}
@@ -10,10 +12,12 @@ use Rattle.block_disk.specs.View.{Image}
 use Rattle.block_disk.specs.MemDisk.{put}
 use Rattle.gate_pages.specs.Batch.{Entry, page_in, put_all, numbers, is_one_of, is_distinct, all_below, AllBelow}
 
-pub page_here : (entry : Entry) (batch : List Entry) (number : ℕ) → eqb number entry.0 ≡ true → page_in (entry ∷ batch) number ≡ Some entry.1
+pub page_here : (entry : Entry) (batch : List Entry) (number : ℕ) → eqb number entry.0 ≡ true
+    → page_in (entry ∷ batch) number ≡ Some entry.1
 page_here entry batch number is = ap (λ b. cond b (Some entry.1) (page_in batch number)) is
 
-pub page_later : (entry : Entry) (batch : List Entry) (number : ℕ) → eqb number entry.0 ≡ false → page_in (entry ∷ batch) number ≡ page_in batch number
+pub page_later : (entry : Entry) (batch : List Entry) (number : ℕ) → eqb number entry.0 ≡ false
+    → page_in (entry ∷ batch) number ≡ page_in batch number
 page_later entry batch number is = ap (λ b. cond b (Some entry.1) (page_in batch number)) is
 
 -- putting a batch twice is putting it once
@@ -25,7 +29,8 @@ put_twice batch pages = fun_ext (λ number. by (page_in batch number) (pages num
     by (Some there) page = refl
 
 -- pages that agree but at those of a batch are equal once it is put
-pub put_same : (batch : List Entry) (pages pages' : Image) → ((number : ℕ) → page_in batch number ≡ None → pages' number ≡ pages number) → put_all batch pages' ≡ put_all batch pages
+pub put_same : (batch : List Entry) (pages pages' : Image) → ((number : ℕ) → page_in batch number ≡ None → pages' number ≡ pages number)
+    → put_all batch pages' ≡ put_all batch pages
 put_same batch pages pages' same = fun_ext (λ number. by (page_in batch number) (pages number) (pages' number) (same number))
   where
     by : (found : Option (List ℕ)) (page page' : List ℕ) → (found ≡ None → page' ≡ page) → unwrap_or found page' ≡ unwrap_or found page
@@ -69,14 +74,18 @@ one_of (entry ∷ batch) number found = elim (eqb_tells number entry.0) [
     equal a b same = elim (eqb_tells a b) [ inl is ↦ is.0 | inr is ↦ absurd (is.1 same) ]
 
 -- one more page, of a number that the batch lacks
-pub page_more : (batch : List Entry) (entry : Entry) (number : ℕ) → is_one_of (numbers batch) entry.0 ≡ false → page_in (batch ++ entry ∷ []) number ≡ (cond (eqb number entry.0) (Some entry.1) (page_in batch number))
+pub page_more : (batch : List Entry) (entry : Entry) (number : ℕ) → is_one_of (numbers batch) entry.0 ≡ false
+    → page_in (batch ++ entry ∷ []) number ≡ (cond (eqb number entry.0) (Some entry.1) (page_in batch number))
 page_more [] entry number new = refl
 page_more (first ∷ batch) entry number new = elim (eqb_tells number first.0) [
   | inl is ↦
-      let other : eqb number entry.0 ≡ false = differ number entry.0 (λ same. by (eqb first.0 entry.0) (is_one_of (numbers batch) entry.0) new (equal first.0 entry.0 (sym is.1 ∙ same))) in
-      page_here first (batch ++ entry ∷ []) number is.0 ∙ sym (ap (λ b. cond b (Some entry.1) (page_in (first ∷ batch) number)) other ∙ page_here first batch number is.0)
+      let other : eqb number entry.0 ≡ false = differ number entry.0
+      (λ same. by (eqb first.0 entry.0) (is_one_of (numbers batch) entry.0) new (equal first.0 entry.0 (sym is.1 ∙ same))) in
+      page_here first (batch ++ entry ∷ []) number is.0
+      ∙ sym (ap (λ b. cond b (Some entry.1) (page_in (first ∷ batch) number)) other ∙ page_here first batch number is.0)
   | inr is ↦
-      page_later first (batch ++ entry ∷ []) number is.0 ∙ page_more batch entry number (later (eqb first.0 entry.0) (is_one_of (numbers batch) entry.0) new)
+      page_later first (batch ++ entry ∷ []) number is.0
+      ∙ page_more batch entry number (later (eqb first.0 entry.0) (is_one_of (numbers batch) entry.0) new)
       ∙ ap (λ o. cond (eqb number entry.0) (Some entry.1) o) (sym (page_later first batch number is.0))
 ]
   where
@@ -94,10 +103,13 @@ page_more (first ∷ batch) entry number new = elim (eqb_tells number first.0) [
     later true b = λ nope. absurd (by true b nope refl)
     later false b = λ nope. nope
 
-pub put_more : (batch : List Entry) (entry : Entry) (pages : Image) → is_one_of (numbers batch) entry.0 ≡ false → put_all (batch ++ entry ∷ []) pages ≡ put entry.0 entry.1 (put_all batch pages)
-put_more batch entry pages new = fun_ext (λ number. ap (λ o. unwrap_or o (pages number)) (page_more batch entry number new) ∙ by (eqb number entry.0) entry.1 (page_in batch number) (pages number))
+pub put_more : (batch : List Entry) (entry : Entry) (pages : Image) → is_one_of (numbers batch) entry.0 ≡ false
+    → put_all (batch ++ entry ∷ []) pages ≡ put entry.0 entry.1 (put_all batch pages)
+put_more batch entry pages new = fun_ext (λ number. ap (λ o. unwrap_or o (pages number)) (page_more batch entry number new)
+    ∙ by (eqb number entry.0) entry.1 (page_in batch number) (pages number))
   where
-    by : (b : Bool) (there : List ℕ) (found : Option (List ℕ)) (page : List ℕ) → unwrap_or (cond b (Some there) found) page ≡ cond b there (unwrap_or found page)
+    by : (b : Bool) (there : List ℕ) (found : Option (List ℕ)) (page : List ℕ)
+        → unwrap_or (cond b (Some there) found) page ≡ cond b there (unwrap_or found page)
     by true there found page = refl
     by false there found page = refl
 
@@ -112,7 +124,8 @@ same_number a b same = elim (eqb_tells a b) [ inl is ↦ is.0 | inr is ↦ absur
 pub one_of_at : (batch : List Entry) (at : ℕ) → at < length batch → is_one_of (numbers batch) (get_or batch at (0, [])).0 ≡ true
 one_of_at batch at below =
     let there = get_or-map (λ (entry : Entry). entry.0) batch at (0, []) 0 below in
-    list_any_at (λ n. eqb n (get_or batch at (0, [])).0) (numbers batch) at 0 (omega (arith, below, length-map batch (λ (entry : Entry). entry.0)))
+    list_any_at (λ n. eqb n (get_or batch at (0, [])).0) (numbers batch) at 0
+    (omega (arith, below, length-map batch (λ (entry : Entry). entry.0)))
     (same_number (get_or (numbers batch) at 0) (get_or batch at (0, [])).0 there)
 
 pub not_first : (a b : Bool) → IsTrue (not a && b) → a ≡ false
@@ -124,7 +137,8 @@ not_rest true b = λ is. search rules
 not_rest false b = λ is. is
 
 -- the number of a page is none of those before it
-pub new_at : (batch : List Entry) (at : ℕ) → at < length batch → IsTrue (is_distinct (numbers batch)) → is_one_of (numbers (take at batch)) (get_or batch at (0, [])).0 ≡ false
+pub new_at : (batch : List Entry) (at : ℕ) → at < length batch → IsTrue (is_distinct (numbers batch))
+    → is_one_of (numbers (take at batch)) (get_or batch at (0, [])).0 ≡ false
 new_at [] at below distinct = absurd (omega (arith, below))
 new_at (entry ∷ batch) zero below distinct = refl
 new_at (entry ∷ batch) (suc at) below distinct =
@@ -133,7 +147,8 @@ new_at (entry ∷ batch) (suc at) below distinct =
     let first = not_first (is_one_of (numbers batch) entry.0) (is_distinct (numbers batch)) distinct in
     let rest = new_at batch at within (not_rest (is_one_of (numbers batch) entry.0) (is_distinct (numbers batch)) distinct) in
     elim (eqb_tells entry.0 n) [
-      | inl is ↦ absurd (both (is_one_of (numbers batch) entry.0) first (ap (λ m. is_one_of (numbers batch) m) is.1 ∙ one_of_at batch at within))
+      | inl is ↦ absurd (both (is_one_of (numbers batch) entry.0) first (ap (λ m. is_one_of (numbers batch) m) is.1
+          ∙ one_of_at batch at within))
       | inr is ↦ ap (λ b. b || is_one_of (numbers (take at batch)) n) is.0 ∙ rest
     ]
   where
@@ -142,7 +157,8 @@ new_at (entry ∷ batch) (suc at) below distinct =
     both false = λ nope is. search rules
 
 -- one page after another is put in its place
-pub put_step : (batch : List Entry) (at : ℕ) (pages : Image) → at < length batch → IsTrue (is_distinct (numbers batch)) → put (get_or batch at (0, [])).0 (get_or batch at (0, [])).1 (put_all (take at batch) pages) ≡ put_all (take (at + 1) batch) pages
+pub put_step : (batch : List Entry) (at : ℕ) (pages : Image) → at < length batch → IsTrue (is_distinct (numbers batch))
+    → put (get_or batch at (0, [])).0 (get_or batch at (0, [])).1 (put_all (take at batch) pages) ≡ put_all (take (at + 1) batch) pages
 put_step batch at pages below distinct =
     let entry = get_or batch at (0, []) in
     sym (put_more (take at batch) entry pages (new_at batch at below distinct))
@@ -195,7 +211,8 @@ numbers_below count batch below = all_below_from count (numbers batch) (λ n is.
     found n is None = λ same. absurd (not_both (is_one_of (numbers batch) n) (not_one_of batch n same) is)
 
 -- the pages of a batch whose numbers lie below a count
-pub pages_below : (count : ℕ) (batch : List Entry) → ((at : ℕ) → at < length batch → (get_or batch at (0, [])).0 < count) → AllBelow count batch
+pub pages_below : (count : ℕ) (batch : List Entry) → ((at : ℕ) → at < length batch → (get_or batch at (0, [])).0 < count)
+    → AllBelow count batch
 pages_below count [] each number found = absurd (nothing found)
   where
     nothing : IsSome {T = List ℕ} None → ⊥
@@ -204,5 +221,6 @@ pages_below count (entry ∷ batch) each number found = elim (eqb_tells number e
   | inl is ↦ omega (arith, each 0 (omega arith), is.1)
   | inr other ↦
       let P : Option (List ℕ) → Type 0 = λ o. IsSome o in
-      pages_below count batch (λ at below. each (suc at) (omega (arith, below))) number (subst P (page_later entry batch number other.0) found)
+      pages_below count batch (λ at below. each (suc at) (omega (arith, below))) number
+      (subst P (page_later entry batch number other.0) found)
 ]

@@ -1,5 +1,6 @@
 -- A batch of pages, each with its number.
-use Rattle.std.specs.Prelude.{ℕ, ◌<◌, IsSome, Bool, true, not, ◌&&◌, ◌==◌, nat_lt, if◌then◌else◌, List, [], ◌∷◌, map, Option, None, Some, unwrap_or}
+use Rattle.std.specs.Prelude.{ℕ, ◌<◌, IsSome, Bool, true, not, ◌&&◌, ◌==◌, nat_lt, if◌then◌else◌, List, [], ◌∷◌, map, Option, None, Some}
+use Rattle.std.specs.Prelude.{unwrap_or}
 use Rattle.std.specs.List.{list_any, list_all}
 use Rattle.block_disk.specs.View.{Image}
 

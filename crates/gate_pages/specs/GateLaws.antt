@@ -11,7 +11,8 @@ pub closed_readable : (count : ℕ) (image : Image) → is_open (image 0) ≡ fa
 closed_readable count image shut broken = let both : true ≡ false = sym broken.gate ∙ shut in cc
 
 -- on a disk at rest a crash leaves the pages
-pub gate_rests : (count : ℕ) (disk : View) → IsClosed disk → (pages : Image) → PagesOf count (Now disk) pages → pages ≡ pages_of count disk.image
+pub gate_rests : (count : ℕ) (disk : View) → IsClosed disk → (pages : Image) → PagesOf count (Now disk) pages
+    → pages ≡ pages_of count disk.image
 gate_rests count disk closed pages left =
     let is = closed.only left.from left.was in
     let readable = closed_readable count disk.image (closed.gate (subst (Now disk) is left.was)) in
@@ -23,7 +24,12 @@ gate_tells count disk only left = subst (Now disk) (only left.from left.was) lef
 
 -- no time at all
 pub goes_none : (at : View) → GoesOn at at
-goes_none at = record { later = omega arith; past = λ time image within left. left; kept = λ time image within left. left; sent_past = λ time within. refl }
+goes_none at = record {
+  later = omega arith;
+  past = λ time image within left. left;
+  kept = λ time image within left. left;
+  sent_past = λ time within. refl;
+}
 
 -- calls whose moments are known
 pub goes_by : (old new : View) (images : Image → Type 0) (sent : ℕ → Type 0) → Passes old new images sent → GoesOn old new
@@ -39,7 +45,8 @@ goes_then old mid new first second = record {
 }
 
 -- what leaves the disk leaves the pages
-pub kept_pages : (count count' : ℕ) (sound sound' : Bool) (old new : View) → count' ≡ count → sound' ≡ sound → DiskKept old new → DiskKept (pages_view count sound old) (pages_view count' sound' new)
+pub kept_pages : (count count' : ℕ) (sound sound' : Bool) (old new : View) → count' ≡ count → sound' ≡ sound → DiskKept old new
+    → DiskKept (pages_view count sound old) (pages_view count' sound' new)
 kept_pages count count' sound sound' old new same same_sound kept =
     let P : ℕ → Type 0 = λ n. DiskKept (pages_view count sound old) (pages_view n sound' new) in
     let Q : Bool → Type 0 = λ b. DiskKept (pages_view count sound old) (pages_view count b new) in
@@ -62,7 +69,8 @@ pub kept_was_told : (old new : View) (sent : ℕ → Type 0) → DiskKept old ne
 kept_was_told old new sent kept passes honest = now_back old new sent passes old.image (subst (Now new) kept.image honest)
 
 -- the moments of a disk are moments of its pages
-pub passes_pages : (count count' : ℕ) (sound sound' : Bool) (old new : View) (sent : ℕ → Type 0) → count' ≡ count → Passes old new (Now old) sent → Passes (pages_view count sound old) (pages_view count' sound' new) (PagesOf count (Now old)) sent
+pub passes_pages : (count count' : ℕ) (sound sound' : Bool) (old new : View) (sent : ℕ → Type 0) → count' ≡ count
+    → Passes old new (Now old) sent → Passes (pages_view count sound old) (pages_view count' sound' new) (PagesOf count (Now old)) sent
 passes_pages count count' sound sound' old new sent same passes =
     let P : ℕ → Type 0 = λ n. Passes (pages_view count sound old) (pages_view n sound' new) (PagesOf count (Now old)) sent in
     subst P (sym same) (record {
@@ -74,7 +82,9 @@ passes_pages count count' sound sound' old new sent same passes =
       sent_here = passes.sent_here;
     })
 
-pub pages_passes : (count : ℕ) (sound sound' : Bool) (old new : View) (images : Image → Type 0) (sent : ℕ → Type 0) → Passes old new (λ image. IsReadable count image × images (pages_of count image)) sent → Passes (pages_view count sound old) (pages_view count sound' new) images sent
+pub pages_passes : (count : ℕ) (sound sound' : Bool) (old new : View) (images : Image → Type 0) (sent : ℕ → Type 0)
+    → Passes old new (λ image. IsReadable count image × images (pages_of count image)) sent
+    → Passes (pages_view count sound old) (pages_view count sound' new) images sent
 pages_passes count sound sound' old new images sent passes = record {
   later = passes.later;
   past = λ time pages within left. record { from = left.from; was = passes.past time left.from within left.was; same = left.same };

@@ -76,4 +76,5 @@ IsReplayed count old new = home new.image ≡ pages_of count old.image
 -- Time goes on from old to new, and no byte is sent. At each moment a crash leaves a journal that can be read, and the
 -- pages from before or those with the batch in their places.
 abbrev pub PassesWith : List Entry → ℕ → View → View → Type 0
-PassesWith batch count old new = Passes old new (λ image. IsReadable count image × BeforeOrAfter batch (pages_of count old.image) (pages_of count image)) (Quiet old)
+PassesWith batch count old new = Passes old new (λ image. IsReadable count image
+    × BeforeOrAfter batch (pages_of count old.image) (pages_of count image)) (Quiet old)

@@ -1,5 +1,6 @@
 //! The calls of a batch.
-ghost use Rattle.std.specs.Prelude.{◌≡◌, ◌≢◌, ◌≤◌, ◌<◌, ◌+◌, ◌==◌, ◌⊎◌, ◌↔◌, ℕ, [], None, Some, length, is_some, slice_index_or, if◌then◌else◌, IfOk, IsTrue};
+ghost use Rattle.std.specs.Prelude.{◌≡◌, ◌≢◌, ◌≤◌, ◌<◌, ◌+◌, ◌==◌, ◌⊎◌, ◌↔◌, ℕ, [], None, Some, length, is_some, slice_index_or};
+ghost use Rattle.std.specs.Prelude.{if◌then◌else◌, IfOk, IsTrue};
 ghost use Rattle.std.specs.Option.{option_copied};
 ghost use Rattle.block_disk.specs.Blocks.{IsBlock};
 ghost use Rattle.gate_pages.specs.Batch.{page_in, AllBelow};
@@ -62,8 +63,10 @@ impl Batch {
     pub fn put(&mut self, p: u32, bytes: &[u8])
         requires whole { IsBlock bytes.now }
         requires room { IsTrue (is_some (page_in (entries self.old) p)) ⊎ (length (entries self.old) < 64) }
-        ensures page { (number : ℕ) → page_in (entries self.new) number ≡ (if number == p then Some bytes.now else page_in (entries self.old) number) }
-        ensures len { length (entries self.new) ≡ (if is_some (page_in (entries self.old) p) then length (entries self.old) else length (entries self.old) + 1) }
+        ensures page { (number : ℕ) → page_in (entries self.new) number ≡ (if number == p then Some bytes.now
+            else page_in (entries self.old) number) }
+        ensures len { length (entries self.new) ≡ (if is_some (page_in (entries self.old) p) then length (entries self.old)
+            else length (entries self.old) + 1) }
     {
         let at = self.place(p);
         let page = &mut self.pages[at];

@@ -47,7 +47,8 @@ fn put_numbers(block: &mut [u8], batch: &Batch)
 /// Makes a block the directory of a batch.
 pub(crate) fn write_directory(block: &mut [u8], batch: &Batch)
     requires whole { IsBlock block.old }
-    ensures { (count : ℕ) → IsTrue (every_below count (numbers (entries batch.now))) → told_by count block.new ≡ Some (numbers (entries batch.now)) }
+    ensures { (count : ℕ) → IsTrue (every_below count (numbers (entries batch.now)))
+        → told_by count block.new ≡ Some (numbers (entries batch.now)) }
 {
     block.fill(0);
     put_bytes(block, 0, &MAGIC);

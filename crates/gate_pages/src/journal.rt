@@ -18,7 +18,8 @@ use block_disk::{Disk, Failed};
 fn write_images<D: Disk>(disk: &mut D, batch: &Batch) -> Result<(), Failed>
     requires room { 66 ≤ (D.view disk.old).size }
     ensures moves { Moves IsJournal 0 0 (length (entries batch.now)) (D.view disk.old) (D.view disk.new) }
-    ensures images { Honest (D.view disk.old) → OnOk result ((k : ℕ) → k < length (entries batch.now) → (D.view disk.new).image (2 + k) ≡ (slice_index_or (entries batch.now) k (0, [])).1) }
+    ensures images { Honest (D.view disk.old) → OnOk result ((k : ℕ) → k < length (entries batch.now)
+        → (D.view disk.new).image (2 + k) ≡ (slice_index_or (entries batch.now) k (0, [])).1) }
     ensures cause { OnErr result (HasRisen (D.view disk.old).faults (D.view disk.new).faults) }
     ensures quiet { OnOk result ((D.view disk.new).faults ≡ (D.view disk.old).faults) }
 {
@@ -63,7 +64,8 @@ pub(crate) fn write_gate<D: Disk>(disk: &mut D, buffer: &mut [u8], byte: u8) -> 
 fn write_pages<D: Disk>(disk: &mut D, batch: &Batch) -> Result<(), Failed>
     requires within { LiesWithin (D.view disk.old).size (numbers (entries batch.now)) }
     ensures moves { Moves (IsHome (numbers (entries batch.now))) 0 0 (length (entries batch.now)) (D.view disk.old) (D.view disk.new) }
-    ensures home { Honest (D.view disk.old) → OnOk result (home (D.view disk.new).image ≡ put_all (entries batch.now) (home (D.view disk.old).image)) }
+    ensures home { Honest (D.view disk.old) → OnOk result
+        (home (D.view disk.new).image ≡ put_all (entries batch.now) (home (D.view disk.old).image)) }
     ensures cause { OnErr result (HasRisen (D.view disk.old).faults (D.view disk.new).faults) }
     ensures quiet { OnOk result ((D.view disk.new).faults ≡ (D.view disk.old).faults) }
 {
@@ -109,7 +111,8 @@ fn bring_home<D: Disk>(disk: &mut D, batch: &Batch) -> Result<(), Failed>
     requires within { LiesWithin (D.view disk.old).size (numbers (entries batch.now)) }
     ensures moves { Moves (IsHome (numbers (entries batch.now))) 0 1 (length (entries batch.now)) (D.view disk.old) (D.view disk.new) }
     ensures durable { OnOk result (Only (D.view disk.new).image (Now (D.view disk.new))) }
-    ensures home { Honest (D.view disk.old) → OnOk result (home (D.view disk.new).image ≡ put_all (entries batch.now) (home (D.view disk.old).image)) }
+    ensures home { Honest (D.view disk.old) → OnOk result
+        (home (D.view disk.new).image ≡ put_all (entries batch.now) (home (D.view disk.old).image)) }
     ensures cause { OnErr result (HasRisen (D.view disk.old).faults (D.view disk.new).faults) }
     ensures quiet { OnOk result ((D.view disk.new).faults ≡ (D.view disk.old).faults) }
 {
@@ -125,9 +128,11 @@ pub(crate) fn redo<D: Disk>(disk: &mut D, buffer: &mut [u8], batch: &Batch) -> R
     requires within { LiesWithin (D.view disk.old).size (numbers (entries batch.now)) }
     requires closed { IsClosed (D.view disk.old) }
     ensures moves { Moves Anywhere 0 4 (2 * length (entries batch.now) + 3) (D.view disk.old) (D.view disk.new) }
-    ensures moments { (count : ℕ) → IsTrue (all_below count (numbers (entries batch.now))) → PassesWith (entries batch.now) count (D.view disk.old) (D.view disk.new) }
+    ensures moments { (count : ℕ) → IsTrue (all_below count (numbers (entries batch.now)))
+        → PassesWith (entries batch.now) count (D.view disk.old) (D.view disk.new) }
     ensures closed { OnOk result (IsClosed (D.view disk.new)) }
-    ensures done { Honest (D.view disk.old) → OnOk result (home (D.view disk.new).image ≡ put_all (entries batch.now) (home (D.view disk.old).image)) }
+    ensures done { Honest (D.view disk.old) → OnOk result
+        (home (D.view disk.new).image ≡ put_all (entries batch.now) (home (D.view disk.old).image)) }
     ensures cause { OnErr result (HasRisen (D.view disk.old).faults (D.view disk.new).faults) }
     ensures quiet { OnOk result ((D.view disk.new).faults ≡ (D.view disk.old).faults) }
 {

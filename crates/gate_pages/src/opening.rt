@@ -33,7 +33,8 @@ impl<D: Disk> GatePages<D> {
         // the pages are sound, and those that the disk stood for
         ensures sound { IfOk result (λ pages. IsTrue pages.sound) }
         ensures count { IfOk result (λ pages. pages.count ≡ page_count (D.view disk).size) }
-        ensures pages { IfOk result (λ pages. Honest (D.view disk) → pages_of pages.count (D.view pages.disk).image ≡ pages_of pages.count (D.view disk).image) }
+        ensures pages { IfOk result (λ pages. Honest (D.view disk)
+            → pages_of pages.count (D.view pages.disk).image ≡ pages_of pages.count (D.view disk).image) }
     {
         match opened(alloc, &mut disk) {
             Ok((buffer, count)) => Ok(GatePages {
@@ -61,7 +62,8 @@ impl<D: Disk> GatePages<D> {
         ensures moves { Moves (At 0) 0 1 1 (D.view disk) (D.view (disk_in result)) }
         ensures sound { IfOk result (λ pages. IsTrue pages.sound) }
         ensures count { IfOk result (λ pages. pages.count ≡ page_count (D.view disk).size) }
-        ensures pages { IfOk result (λ pages. Honest (D.view disk) → pages_of pages.count (D.view pages.disk).image ≡ home (D.view disk).image) }
+        ensures pages { IfOk result (λ pages. Honest (D.view disk)
+            → pages_of pages.count (D.view pages.disk).image ≡ home (D.view disk).image) }
     {
         match formatted(alloc, &mut disk) {
             Ok((buffer, count)) => Ok(GatePages {
@@ -98,7 +100,8 @@ fn opened<D: Disk>(alloc: Global, disk: &mut D) -> Result<(Vec<u8>, u32), OpenCa
     ensures closed { IfOk result (λ found. IsClosed (D.view disk.new)) }
     ensures count { IfOk result (λ found. found.1 ≡ page_count (D.view disk.old).size) }
     ensures buffer { IfOk result (λ found. IsBlock found.0.items) }
-    ensures pages { IfOk result (λ found. Honest (D.view disk.old) → home (D.view disk.new).image ≡ pages_of found.1 (D.view disk.old).image) }
+    ensures pages { IfOk result (λ found. Honest (D.view disk.old)
+        → home (D.view disk.new).image ≡ pages_of found.1 (D.view disk.old).image) }
 {
     let mut buffer = vec![in alloc; 0; BLOCK]?;
     let count = pages_on(disk)?;

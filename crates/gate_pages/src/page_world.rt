@@ -35,7 +35,8 @@ pub trait PageWorld: Pages + Streams {
 
     ghost take_goes_on: { (old new : Self) → Self.takes old new → GoesOn (Self.under old) (Self.under new) };
 
-    ghost take_passes: { (old new : Self) → Self.takes old new → Passes (Self.view old) (Self.view new) (Now (Self.view old)) (λ count. count ≡ sent_now (Self.view old)) };
+    ghost take_passes: { (old new : Self) → Self.takes old new
+        → Passes (Self.view old) (Self.view new) (Now (Self.view old)) (λ count. count ≡ sent_now (Self.view old)) };
 
     /// A send leaves the pages, and the number of bytes sent rises on the way to what it is then.
     ghost send_keeps: { (most : ℕ) (old new : Self) → Self.sends most old new → DiskKept (Self.view old) (Self.view new) };
@@ -48,7 +49,10 @@ pub trait PageWorld: Pages + Streams {
 
     ghost send_goes_on: { (most : ℕ) (old new : Self) → Self.sends most old new → GoesOn (Self.under old) (Self.under new) };
 
-    ghost send_passes: { (most : ℕ) (old new : Self) → Self.sends most old new → Passes (Self.view old) (Self.view new) (Now (Self.view old)) (λ count. (sent_now (Self.view old) ≤ count) × (count ≤ sent_now (Self.view new))) };
+    ghost send_passes: { (most : ℕ) (old new : Self) → Self.sends most old new
+        → Passes (Self.view old) (Self.view new) (Now (Self.view old)) (λ count. (sent_now (Self.view old) ≤ count)
+        × (count ≤ sent_now (Self.view new))) };
 
-    ghost send_counts: { (most : ℕ) (old new : Self) → Self.sends most old new → sent_now (Self.view new) ≤ sent_now (Self.view old) + most };
+    ghost send_counts: { (most : ℕ) (old new : Self) → Self.sends most old new
+        → sent_now (Self.view new) ≤ sent_now (Self.view old) + most };
 }

@@ -42,7 +42,8 @@ fn copy_images<D: Disk>(disk: &mut D, buffer: &mut [u8], numbers: &[u32]) -> Res
     requires distinct { IsTrue (is_distinct numbers.now) }
     requires within { LiesWithin (D.view disk.old).size numbers.now }
     ensures moves { Moves (IsHome numbers.now) (length numbers.now) 0 (length numbers.now) (D.view disk.old) (D.view disk.new) }
-    ensures home { Honest (D.view disk.old) → OnOk result (home (D.view disk.new).image ≡ put_all (images numbers.now 2 (D.view disk.old).image) (home (D.view disk.old).image)) }
+    ensures home { Honest (D.view disk.old) → OnOk result
+        (home (D.view disk.new).image ≡ put_all (images numbers.now 2 (D.view disk.old).image) (home (D.view disk.old).image)) }
     ensures cause { OnErr result (HasRisen (D.view disk.old).faults (D.view disk.new).faults) }
     ensures quiet { OnOk result ((D.view disk.new).faults ≡ (D.view disk.old).faults) }
 {
@@ -63,7 +64,8 @@ fn copy_home<D: Disk>(disk: &mut D, buffer: &mut [u8], numbers: &[u32]) -> Resul
     requires within { LiesWithin (D.view disk.old).size numbers.now }
     ensures moves { Moves (IsHome numbers.now) (length numbers.now) 1 (length numbers.now) (D.view disk.old) (D.view disk.new) }
     ensures durable { OnOk result (Only (D.view disk.new).image (Now (D.view disk.new))) }
-    ensures home { Honest (D.view disk.old) → OnOk result (home (D.view disk.new).image ≡ put_all (images numbers.now 2 (D.view disk.old).image) (home (D.view disk.old).image)) }
+    ensures home { Honest (D.view disk.old) → OnOk result
+        (home (D.view disk.new).image ≡ put_all (images numbers.now 2 (D.view disk.old).image) (home (D.view disk.old).image)) }
     ensures cause { OnErr result (HasRisen (D.view disk.old).faults (D.view disk.new).faults) }
     ensures quiet { OnOk result ((D.view disk.new).faults ≡ (D.view disk.old).faults) }
 {
@@ -82,9 +84,11 @@ fn replay<D: Disk>(disk: &mut D, buffer: &mut [u8], numbers: &[u32]) -> Result<(
     requires only { Only (D.view disk.old).image (Now (D.view disk.old)) }
     requires opened { Honest (D.view disk.old) → is_open ((D.view disk.old).image 0) ≡ true }
     ensures moves { Moves Anywhere (length numbers.now) 2 (length numbers.now + 1) (D.view disk.old) (D.view disk.new) }
-    ensures moments { (count : ℕ) → (Honest (D.view disk.old) → Lists count numbers.now (D.view disk.old)) → PassesStanding count (D.view disk.old) (D.view disk.new) }
+    ensures moments { (count : ℕ) → (Honest (D.view disk.old) → Lists count numbers.now (D.view disk.old))
+        → PassesStanding count (D.view disk.old) (D.view disk.new) }
     ensures closed { OnOk result (IsClosed (D.view disk.new)) }
-    ensures done { (count : ℕ) → Honest (D.view disk.old) → Lists count numbers.now (D.view disk.old) → OnOk result (IsReplayed count (D.view disk.old) (D.view disk.new)) }
+    ensures done { (count : ℕ) → Honest (D.view disk.old) → Lists count numbers.now (D.view disk.old)
+        → OnOk result (IsReplayed count (D.view disk.old) (D.view disk.new)) }
     ensures cause { OnErr result (HasRisen (D.view disk.old).faults (D.view disk.new).faults) }
     ensures quiet { OnOk result ((D.view disk.new).faults ≡ (D.view disk.old).faults) }
 {

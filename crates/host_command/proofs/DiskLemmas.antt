@@ -64,7 +64,8 @@ no_lines input at = record {
   hosted = record { events = []; lines_are = sym none_told; happened = (refl, refl) };
 }
 
-none_ahead : (IsThere : List Series → Type 0) (input : List ℕ) (at : LiveState) (from : ℕ) → IsThere at.state.book → IsAhead IsThere input at from from
+none_ahead : (IsThere : List Series → Type 0) (input : List ℕ) (at : LiveState) (from : ℕ) → IsThere at.state.book
+    → IsAhead IsThere input at from from
 none_ahead IsThere input at from there = record {
   shown = [];
   more = [];
@@ -92,41 +93,98 @@ none_cost input at pieces pieces' = record {
 
 -- ---- the same of a book that is there otherwise
 
-module _ (IsThere IsThat : List Series → Type 0) (input : List ℕ) (old : LiveState) (before now : Option (List ℕ)) (so : (after : List Series) → IsThere after → IsThat after) where
+module _ (IsThere IsThat : List Series → Type 0) (input : List ℕ) (old : LiveState) (before now : Option (List ℕ))
+    (so : (after : List Series) → IsThere after → IsThat after) where
   all_so : SendsAll IsThere input old before now → SendsAll IsThat input old before now
-  all_so s = record { frames = s.frames; state = s.state; hosted = s.hosted; idle = s.idle; there = so s.state.state.book s.there; sent = s.sent }
+  all_so s = record {
+    frames = s.frames;
+    state = s.state;
+    hosted = s.hosted;
+    idle = s.idle;
+    there = so s.state.state.book s.there;
+    sent = s.sent;
+  }
 
-  ends_so : (left : Option (List ℕ)) (end : End) → EndsSo IsThere input old left before now end → EndsSo IsThat input old left before now end
+  ends_so : (left : Option (List ℕ)) (end : End) → EndsSo IsThere input old left before now end
+      → EndsSo IsThat input old left before now end
   ends_so left Done s = all_so s
-  ends_so left NoMemory s = record { shown = s.shown; more = s.more; few = s.few; state = s.state; first = s.first; there = amid_same IsThere IsThat s.more s.state so (told s.first.rest) s.there; sent = s.sent }
+  ends_so left NoMemory s = record {
+    shown = s.shown;
+    more = s.more;
+    few = s.few;
+    state = s.state;
+    first = s.first;
+    there = amid_same IsThere IsThat s.more s.state so (told s.first.rest) s.there;
+    sent = s.sent;
+  }
   ends_so left ReadFault s = record {
-    sends = record { frames = s.sends.frames; state = s.sends.state; first = s.sends.first; idle = s.sends.idle; there = so s.sends.state.state.book s.sends.there; sent = s.sends.sent };
+    sends = record {
+      frames = s.sends.frames;
+      state = s.sends.state;
+      first = s.sends.first;
+      idle = s.sends.idle;
+      there = so s.sends.state.state.book s.sends.there;
+      sent = s.sends.sent;
+    };
     whole = s.whole;
     behind = s.behind;
   }
-  ends_so left SendFault s = record { shown = s.shown; last = s.last; more = s.more; few = s.few; state = s.state; first = s.first; there = so s.state.state.book s.there; between = s.between; whole = s.whole; part = s.part }
+  ends_so left SendFault s = record {
+    shown = s.shown;
+    last = s.last;
+    more = s.more;
+    few = s.few;
+    state = s.state;
+    first = s.first;
+    there = so s.state.state.book s.there;
+    between = s.between;
+    whole = s.whole;
+    part = s.part;
+  }
   ends_so left DiskFault s = s
   ends_so left InputTooLong s = record {
-    sends = record { frames = s.sends.frames; state = s.sends.state; first = s.sends.first; idle = s.sends.idle; there = so s.sends.state.state.book s.sends.there; sent = s.sends.sent };
+    sends = record {
+      frames = s.sends.frames;
+      state = s.sends.state;
+      first = s.sends.first;
+      idle = s.sends.idle;
+      there = so s.sends.state.state.book s.sends.there;
+      sent = s.sends.sent;
+    };
     unended = s.unended;
     past = s.past;
   }
   ends_so left end s = absurd s
 
-ahead_so : (IsThere IsThat : List Series → Type 0) (input : List ℕ) (old : LiveState) (from sent : ℕ) → ((after : List Series) → IsThere after → IsThat after) → IsAhead IsThere input old from sent → IsAhead IsThat input old from sent
-ahead_so IsThere IsThat input old from sent so a = record { shown = a.shown; more = a.more; few = a.few; state = a.state; first = a.first; there = amid_same IsThere IsThat a.more a.state so (told a.first.rest) a.there; low = a.low; high = a.high }
+ahead_so : (IsThere IsThat : List Series → Type 0) (input : List ℕ) (old : LiveState) (from sent : ℕ)
+    → ((after : List Series) → IsThere after → IsThat after) → IsAhead IsThere input old from sent → IsAhead IsThat input old from sent
+ahead_so IsThere IsThat input old from sent so a = record {
+  shown = a.shown;
+  more = a.more;
+  few = a.few;
+  state = a.state;
+  first = a.first;
+  there = amid_same IsThere IsThat a.more a.state so (told a.first.rest) a.there;
+  low = a.low;
+  high = a.high;
+}
 
 -- ---- what a crash leaves
 
 -- what is ahead in all pages that a crash may leave is so in each image that it may leave
-ahead_on : (total : ℕ) (input : List ℕ) (old : LiveState) (from sent count : ℕ) (crash : Image → Type 0) → total ≤ count → ((pages : Image) → PagesOf count crash pages → IsAhead (Stands total pages) input old from sent) → (image : Image) → crash image → IsAhead (λ after. RecoversTo count image total after) input old from sent
+ahead_on : (total : ℕ) (input : List ℕ) (old : LiveState) (from sent count : ℕ) (crash : Image → Type 0) → total ≤ count
+    → ((pages : Image) → PagesOf count crash pages → IsAhead (Stands total pages) input old from sent) → (image : Image) → crash image
+    → IsAhead (λ after. RecoversTo count image total after) input old from sent
 ahead_on total input old from sent count crash within all image left =
     let Q : Image → Type 0 = λ pages. IsAhead (Stands total pages) input old from sent in
     let total_of : (pages : Image) → Q pages → ℕ = λ pages is. total in
-    let book_of : (pages : Image) → Q pages → List Series = λ pages is. (amid_book (Stands total pages) is.more is.state (told is.first.rest) is.there).0 in
-    let stand : (pages : Image) (is : Q pages) → StandsForBook pages (total_of pages is) (book_of pages is) = λ pages is. (amid_book (Stands total pages) is.more is.state (told is.first.rest) is.there).1 in
+    let book_of : (pages : Image) → Q pages → List Series = λ pages is.
+    (amid_book (Stands total pages) is.more is.state (told is.first.rest) is.there).0 in
+    let stand : (pages : Image) (is : Q pages) → StandsForBook pages (total_of pages is) (book_of pages is) = λ pages is.
+    (amid_book (Stands total pages) is.more is.state (told is.first.rest) is.there).1 in
     let readable = lowered_readable count crash Q total_of book_of stand all image left in
-    ahead_so (Stands total (pages_of count image)) (λ after. RecoversTo count image total after) input old from sent (λ after stands. recovers_new count image total after readable within stands)
+    ahead_so (Stands total (pages_of count image)) (λ after. RecoversTo count image total after) input old from sent
+    (λ after stands. recovers_new count image total after readable within stands)
     (lowered_is count crash Q total_of book_of stand all image left)
 
 -- ---- a page that was called damaged
@@ -136,7 +194,8 @@ layout_of count image page (inl bad) = (bad.numbers, bad.keeps)
 layout_of count image page (inr bad) = (bad.1.numbers, bad.1.keeps)
 
 -- it is so of the disk, whose pages are of version 2
-later_host : (count count' : ℕ) (new : View) (page : ℕ) → count' ≡ count → page < count' → (Honest new → IsBadForHost count' (pages_of count' new.image) page) → IsDamagedLater IsBadForHost count new (block_of page)
+later_host : (count count' : ℕ) (new : View) (page : ℕ) → count' ≡ count → page < count'
+    → (Honest new → IsBadForHost count' (pages_of count' new.image) page) → IsDamagedLater IsBadForHost count new (block_of page)
 later_host count count' new page same within bad =
     let P : ℕ → Type 0 = λ n. IsBadForHost n (pages_of n new.image) page in
     let Q : Image → Type 0 = λ pages. IsBadForHost count pages page in
@@ -153,8 +212,13 @@ later_host count count' new page same within bad =
 -- ---- the lines of an input over the pages of a disk, which is at rest afterwards unless a call of it failed
 
 -- from the state on that a service without sessions begins with
-module _ (count count' : ℕ) (sound sound' : Bool) (old new : View) (t : Traffic) (goes : Goes (disk_side count sound old t.reads t.sends) (disk_side count' sound' new t.reads_now t.sends_now)) (rests : RestsNew count old) (state : ℕ → List Series → LiveState) (begins : (total : ℕ) (book : List Series) → state total book ≡ begun_live total book) where
-  cause_on : (end : End) → (end ≡ Done → WasReadWithin most_bytes t.left t.left_now) → (end ≡ InputTooLong → IsPast most_bytes t.left) → (end ≢ Done → IsRunCause end (disk_side count sound old t.reads t.sends) (disk_side count' sound' new t.reads_now t.sends_now)) → IsServeCause end count old new t
+module _ (count count' : ℕ) (sound sound' : Bool) (old new : View) (t : Traffic)
+    (goes : Goes (disk_side count sound old t.reads t.sends) (disk_side count' sound' new t.reads_now t.sends_now))
+    (rests : RestsNew count old) (state : ℕ → List Series → LiveState) (begins : (total : ℕ) (book : List Series)
+    → state total book ≡ begun_live total book) where
+  cause_on : (end : End) → (end ≡ Done → WasReadWithin most_bytes t.left t.left_now) → (end ≡ InputTooLong → IsPast most_bytes t.left)
+      → (end ≢ Done → IsRunCause end (disk_side count sound old t.reads t.sends) (disk_side count' sound' new t.reads_now t.sends_now))
+      → IsServeCause end count old new t
   cause_on Done whole long cause = whole refl
   cause_on NoMemory whole long cause = tt
   cause_on ReadFault whole long cause = cause (λ is. cc)
@@ -168,36 +232,52 @@ module _ (count count' : ℕ) (sound sound' : Bool) (old new : View) (t : Traffi
   abbrev ServedOn : ℕ → LiveState → List ℕ → End → Type 0
   ServedOn total start input end = EndsSo (Stands total (pages_of count' new.image)) input start t.left_now t.sent t.sent_now end
 
-  end_on : (total : ℕ) (book : List Series) (input : List ℕ) (end : End) → HoldsBook count total book old → (end ≢ DiskFault → IsClosed new) → ServedOn total (begun_live total book) input end → EndsSo (Holds count total new) input (begun_live total book) t.left_now t.sent t.sent_now end
+  end_on : (total : ℕ) (book : List Series) (input : List ℕ) (end : End) → HoldsBook count total book old → (end ≢ DiskFault → IsClosed new)
+      → ServedOn total (begun_live total book) input end
+      → EndsSo (Holds count total new) input (begun_live total book) t.left_now t.sent t.sent_now end
   end_on total book input DiskFault holds closed s = s
-  end_on total book input end holds closed s = ends_so (Stands total (pages_of count' new.image)) (Holds count total new) input (begun_live total book) t.sent t.sent_now (holds_so count count' old new goes.size goes.is_told total book holds (closed (λ is. cc))) t.left_now end s
+  end_on total book input end holds closed s = ends_so (Stands total (pages_of count' new.image)) (Holds count total new) input
+      (begun_live total book) t.sent t.sent_now (holds_so count count' old new goes.size goes.is_told total book holds (closed (λ is. cc)))
+      t.left_now end s
 
-  does_on : (left : Option (List ℕ)) (end : End) → OfPages count old (λ total book. IfSome left (λ input. ServedOn total (state total book) input end)) → (end ≢ DiskFault → IsClosed new)
-      → IfSome left (λ input. OfBook count old (λ total book. EndsSo (Holds count total new) input (begun_live total book) t.left_now t.sent t.sent_now end))
+  does_on : (left : Option (List ℕ)) (end : End) → OfPages count old
+      (λ total book. IfSome left (λ input. ServedOn total (state total book) input end)) → (end ≢ DiskFault → IsClosed new)
+      → IfSome left (λ input. OfBook count old (λ total book. EndsSo (Holds count total new) input
+      (begun_live total book) t.left_now t.sent t.sent_now end))
   does_on None end all closed = tt
   does_on (Some input) end all closed = λ total book holds.
       let P : LiveState → Type 0 = λ s. ServedOn total s input end in
-      end_on total book input end holds closed (subst P (begins total book) (all total book holds.honest (stands_held count total book old rests holds)))
+      end_on total book input end holds closed (subst P (begins total book)
+      (all total book holds.honest (stands_held count total book old rests holds)))
 
-  crash_on : (left before : Option (List ℕ)) → OfPages count old (λ total book. IfSome left (λ input. IfSome before (λ bytes. Since (pages_view count sound old) (pages_view count' sound' new) (λ pages sent. IsAhead (Stands total pages) input (state total book) (sent_now (pages_view count sound old)) sent))))
+  crash_on : (left before : Option (List ℕ)) → OfPages count old
+      (λ total book. IfSome left (λ input. IfSome before
+      (λ bytes. Since (pages_view count sound old) (pages_view count' sound' new)
+      (λ pages sent. IsAhead (Stands total pages) input (state total book) (sent_now (pages_view count sound old)) sent))))
       → IfSome left (λ input. IfSome before (λ bytes. LeavesHosted count input old new))
   crash_on None before all = tt
   crash_on (Some input) None all = tt
   crash_on (Some input) (Some bytes) all = λ total book holds.
-      let L : LiveState → Type 0 = λ s. Since (pages_view count sound old) (pages_view count' sound' new) (λ pages sent. IsAhead (Stands total pages) input s (sent_now (pages_view count sound old)) sent) in
-      let since : L (begun_live total book) = subst L (begins total book) (all total book holds.honest (stands_held count total book old rests holds)) in
+      let L : LiveState → Type 0 = λ s. Since (pages_view count sound old) (pages_view count' sound' new)
+      (λ pages sent. IsAhead (Stands total pages) input s (sent_now (pages_view count sound old)) sent) in
+      let since : L (begun_live total book) = subst L (begins total book)
+      (all total book holds.honest (stands_held count total book old rests holds)) in
       record {
         goes = goes.goes_on;
         here = λ at image low high left.
-            let P : ℕ → Type 0 = λ c. (pages : Image) → PagesOf c (new.crash at) pages → IsAhead (Stands total pages) input (begun_live total book) (sent_now old) (new.sent_by at) in
+            let P : ℕ → Type 0 = λ c. (pages : Image) → PagesOf c (new.crash at) pages
+            → IsAhead (Stands total pages) input (begun_live total book) (sent_now old) (new.sent_by at) in
             let each : P count' = λ pages found. since.here at pages low high found in
-            ahead_on total input (begun_live total book) (sent_now old) (new.sent_by at) count (new.crash at) (within_held count total book old holds) (subst P goes.size each) image left;
+            ahead_on total input (begun_live total book) (sent_now old) (new.sent_by at) count (new.crash at)
+            (within_held count total book old holds) (subst P goes.size each) image left;
       }
 
   pub served_by : (end : End) → (end ≡ Done → WasReadWithin most_bytes t.left t.left_now) → (end ≡ InputTooLong → IsPast most_bytes t.left)
       → (end ≢ Done → IsRunCause end (disk_side count sound old t.reads t.sends) (disk_side count' sound' new t.reads_now t.sends_now))
       → OfPages count old (λ total book. IfSome t.left (λ input. ServedOn total (state total book) input end))
-      → OfPages count old (λ total book. IfSome t.left (λ input. IfSome t.sent (λ bytes. Since (pages_view count sound old) (pages_view count' sound' new) (λ pages sent. IsAhead (Stands total pages) input (state total book) (sent_now (pages_view count sound old)) sent))))
+      → OfPages count old (λ total book. IfSome t.left
+      (λ input. IfSome t.sent (λ bytes. Since (pages_view count sound old) (pages_view count' sound' new)
+      (λ pages sent. IsAhead (Stands total pages) input (state total book) (sent_now (pages_view count sound old)) sent))))
       → (end ≢ DiskFault → IsClosed new) → Served count old new t end
   served_by end whole long cause ends crash closed = record {
     cause = cause_on end whole long cause;
@@ -210,19 +290,27 @@ module _ (count count' : ℕ) (sound sound' : Bool) (old new : View) (t : Traffi
 -- ---- the store is opened first
 
 module _ (old mid new : View) (t : Traffic) (opens : Opens (page_count old.size) old mid) (quiet : mid.faults ≡ old.faults) where
-  does_opened : (left : Option (List ℕ)) (end : End) → IfSome left (λ input. OfBook (page_count old.size) mid (λ total book. EndsSo (Holds (page_count old.size) total new) input (begun_live total book) t.left_now t.sent t.sent_now end))
-      → IfSome left (λ input. OfBook (page_count old.size) old (λ total book. EndsSo (Holds (page_count old.size) total new) input (begun_live total book) t.left_now t.sent t.sent_now end))
+  does_opened : (left : Option (List ℕ)) (end : End)
+      → IfSome left (λ input. OfBook (page_count old.size) mid
+      (λ total book. EndsSo (Holds (page_count old.size) total new) input (begun_live total book) t.left_now t.sent t.sent_now end))
+      → IfSome left (λ input. OfBook (page_count old.size) old
+      (λ total book. EndsSo (Holds (page_count old.size) total new) input (begun_live total book) t.left_now t.sent t.sent_now end))
   does_opened None end all = tt
   does_opened (Some input) end all = λ total book holds. all total book (held old mid opens total book holds)
 
-  crash_opened : (left before : Option (List ℕ)) → IfSome left (λ input. IfSome before (λ bytes. LeavesHosted (page_count old.size) input mid new)) → IfSome left (λ input. IfSome before (λ bytes. LeavesHosted (page_count old.size) input old new))
+  crash_opened : (left before : Option (List ℕ)) → IfSome left
+      (λ input. IfSome before (λ bytes. LeavesHosted (page_count old.size) input mid new))
+      → IfSome left (λ input. IfSome before (λ bytes. LeavesHosted (page_count old.size) input old new))
   crash_opened None before all = tt
   crash_opened (Some input) None all = tt
   crash_opened (Some input) (Some bytes) all = λ total book holds.
       let count = page_count old.size in
-      let IsSo : Image → ℕ → Type 0 = λ image sent. IsAhead (λ after. RecoversTo count image total after) input (begun_live total book) (sent_now old) sent in
-      let P : ℕ → Type 0 = λ from. Since mid new (λ image sent. IsAhead (λ after. RecoversTo count image total after) input (begun_live total book) from sent) in
-      since_both old mid new IsSo (since_opened IsSo old mid total book opens holds (λ image is. none_ahead (λ after. RecoversTo count image total after) input (begun_live total book) (sent_now old) is))
+      let IsSo : Image → ℕ → Type 0 = λ image sent. IsAhead (λ after. RecoversTo count image total after) input (begun_live total book)
+      (sent_now old) sent in
+      let P : ℕ → Type 0 = λ from. Since mid new (λ image sent. IsAhead (λ after. RecoversTo count image total after) input
+      (begun_live total book) from sent) in
+      since_both old mid new IsSo (since_opened IsSo old mid total book opens holds
+      (λ image is. none_ahead (λ after. RecoversTo count image total after) input (begun_live total book) (sent_now old) is))
       (subst P (opened_quiet old mid opens) (all total book (held old mid opens total book holds)))
 
   cause_opened : (end : End) → IsServeCause end (page_count old.size) mid new t → IsHostCause end old new t
@@ -235,7 +323,9 @@ module _ (old mid new : View) (t : Traffic) (opens : Opens (page_count old.size)
   cause_opened InputTooLong is = is
   cause_opened end is = absurd is
 
-  next_held : (total : ℕ) (book : List Series) (input : List ℕ) (end : End) → end ≢ DiskFault → EndsSo (Holds (page_count old.size) total new) input (begun_live total book) t.left_now t.sent t.sent_now end → (next : List Series) × HoldsBook (page_count old.size) total next new
+  next_held : (total : ℕ) (book : List Series) (input : List ℕ) (end : End) → end ≢ DiskFault
+      → EndsSo (Holds (page_count old.size) total new) input (begun_live total book) t.left_now t.sent t.sent_now end
+      → (next : List Series) × HoldsBook (page_count old.size) total next new
   next_held total book input Done other s = (s.state.state.book, s.there)
   next_held total book input NoMemory other s = amid_book (Holds (page_count old.size) total new) s.more s.state (told s.first.rest) s.there
   next_held total book input ReadFault other s = (s.sends.state.state.book, s.sends.there)
@@ -250,7 +340,9 @@ module _ (old mid new : View) (t : Traffic) (opens : Opens (page_count old.size)
       record {
         cause = cause_opened end s.cause;
         does = does;
-        holds = λ other. again_told (page_count old.size) old new t.left (λ total book input. EndsSo (Holds (page_count old.size) total new) input (begun_live total book) t.left_now t.sent t.sent_now end) (λ total book input is. next_held total book input end other is) does;
+        holds = λ other. again_told (page_count old.size) old new t.left
+            (λ total book input. EndsSo (Holds (page_count old.size) total new) input
+            (begun_live total book) t.left_now t.sent t.sent_now end) (λ total book input is. next_held total book input end other is) does;
         crash = crash_opened t.left t.sent s.crash;
         honest = λ h. s.honest (opens.honest h);
         goes_on = goes_then old mid new (opened_goes old mid opens) s.goes_on;
@@ -269,34 +361,47 @@ told_each (Some input) P all = all input
 pub served_none : (count : ℕ) (disk : View) (t : Traffic) → t.sent_now ≡ t.sent → Served count disk disk t NoMemory
 served_none count disk t unsent = record {
   cause = tt;
-  does = told_each t.left (λ input. OfBook count disk (λ total book. EndsSo (Holds count total disk) input (begun_live total book) t.left_now t.sent t.sent_now NoMemory)) (λ input total book holds. record {
-    shown = [];
-    more = [];
-    few = omega arith;
-    state = begun_live total book;
-    first = no_lines input (begun_live total book);
-    there = inl holds;
-    sent = unsent ∙ sent_none t.sent;
-  });
-  crash = told_each t.left (λ input. IfSome t.sent (λ bytes. LeavesHosted count input disk disk)) (λ input. told_each t.sent (λ bytes. LeavesHosted count input disk disk) (λ bytes total book holds.
-      since_none disk (λ image sent. IsAhead (λ after. RecoversTo count image total after) input (begun_live total book) (sent_now disk) sent)
-      (λ image left. none_ahead (λ after. RecoversTo count image total after) input (begun_live total book) (sent_now disk) (holds.images image left))));
+  does = told_each t.left (λ input. OfBook count disk
+      (λ total book. EndsSo (Holds count total disk) input (begun_live total book) t.left_now t.sent t.sent_now NoMemory))
+      (λ input total book holds. record {
+        shown = [];
+        more = [];
+        few = omega arith;
+        state = begun_live total book;
+        first = no_lines input (begun_live total book);
+        there = inl holds;
+        sent = unsent ∙ sent_none t.sent;
+      });
+  crash = told_each t.left (λ input. IfSome t.sent (λ bytes. LeavesHosted count input disk disk))
+      (λ input. told_each t.sent (λ bytes. LeavesHosted count input disk disk) (λ bytes total book holds.
+      since_none disk (λ image sent. IsAhead (λ after. RecoversTo count image total after) input (begun_live total book)
+      (sent_now disk) sent)
+      (λ image left. none_ahead (λ after. RecoversTo count image total after) input (begun_live total book) (sent_now disk)
+      (holds.images image left))));
   honest = λ h. h;
   goes_on = goes_none disk;
 }
 
 -- no store was opened
 module _ (old new : View) (t : Traffic) where
-  unopened_cause : (cause : OpeningCause) → IsUnopened old new t.left t.left_now t.sent t.sent_now cause → IsHostCause (opening_end cause) old new t
+  unopened_cause : (cause : OpeningCause) → IsUnopened old new t.left t.left_now t.sent t.sent_now cause
+      → IsHostCause (opening_end cause) old new t
   unopened_cause (opening.TooSmall size) u = (u.prevents.0, omega (arith, u.prevents.0, u.prevents.1))
   unopened_cause (opening.Damaged block) u = (u.prevents.1, (u.left_is, u.sent_is))
   unopened_cause opening.DiskFault u = u.prevents
   unopened_cause opening.NoMemory u = tt
 
-  unopened_does : (input : List ℕ) (cause : OpeningCause) → IsUnopened old new t.left t.left_now t.sent t.sent_now cause → OfBook (page_count old.size) old (λ total book. EndsSo (Holds (page_count old.size) total new) input (begun_live total book) t.left_now t.sent t.sent_now (opening_end cause))
+  unopened_does : (input : List ℕ) (cause : OpeningCause) → IsUnopened old new t.left t.left_now t.sent t.sent_now cause
+      → OfBook (page_count old.size) old (λ total book. EndsSo (Holds (page_count old.size) total new) input
+      (begun_live total book) t.left_now t.sent t.sent_now (opening_end cause))
   unopened_does input (opening.TooSmall size) u = λ total book holds. absurd (too_small size (u.outside total book holds))
   unopened_does input (opening.Damaged block) u = λ total book holds. absurd (unopened block (u.outside total book holds))
-  unopened_does input opening.DiskFault u = λ total book holds. record { frames = []; state = begun_live total book; first = no_lines input (begun_live total book); sent = u.sent_is ∙ sent_none t.sent }
+  unopened_does input opening.DiskFault u = λ total book holds. record {
+    frames = [];
+    state = begun_live total book;
+    first = no_lines input (begun_live total book);
+    sent = u.sent_is ∙ sent_none t.sent;
+  }
   unopened_does input opening.NoMemory u = λ total book holds. record {
     shown = [];
     more = [];
@@ -310,16 +415,20 @@ module _ (old new : View) (t : Traffic) where
   unopened_crash : (input : List ℕ) → Opens (page_count old.size) old new → LeavesHosted (page_count old.size) input old new
   unopened_crash input opens = λ total book holds.
       let count = page_count old.size in
-      since_opened (λ image sent. IsAhead (λ after. RecoversTo count image total after) input (begun_live total book) (sent_now old) sent) old new total book opens holds (λ image is. none_ahead (λ after. RecoversTo count image total after) input (begun_live total book) (sent_now old) is)
+      since_opened (λ image sent. IsAhead (λ after. RecoversTo count image total after) input (begun_live total book) (sent_now old) sent)
+      old new total book opens holds (λ image is. none_ahead (λ after. RecoversTo count image total after) input (begun_live total book)
+      (sent_now old) is)
 
-  pub unopened_ends : (cause : OpeningCause) (end : End) → end ≡ opening_end cause → IsUnopened old new t.left t.left_now t.sent t.sent_now cause → HostEnds old new t end
+  pub unopened_ends : (cause : OpeningCause) (end : End) → end ≡ opening_end cause
+      → IsUnopened old new t.left t.left_now t.sent t.sent_now cause → HostEnds old new t end
   unopened_ends cause end same u =
       let E : End → Type 0 = λ e. HostEnds old new t e in
       subst E (sym same) (record {
         cause = unopened_cause cause u;
         does = told_each t.left _ (λ input. unopened_does input cause u);
         holds = λ other. told_each t.left (λ input. HoldsAgain (page_count old.size) old new) (λ input. again_opened old new u.opens);
-        crash = told_each t.left (λ input. IfSome t.sent (λ bytes. LeavesHosted (page_count old.size) input old new)) (λ input. told_each t.sent (λ bytes. LeavesHosted (page_count old.size) input old new) (λ bytes. unopened_crash input u.opens));
+        crash = told_each t.left (λ input. IfSome t.sent (λ bytes. LeavesHosted (page_count old.size) input old new))
+            (λ input. told_each t.sent (λ bytes. LeavesHosted (page_count old.size) input old new) (λ bytes. unopened_crash input u.opens));
         honest = u.opens.honest;
         goes_on = opened_goes old new u.opens;
       })
@@ -327,28 +436,42 @@ module _ (old new : View) (t : Traffic) where
 -- ---- what that costs
 
 -- no line
-pub costs_untaken : (count : ℕ) (disk : View) (left : Option (List ℕ)) → IfSome left (λ input. CostsFrom count disk disk input disk.reads disk.syncs)
+pub costs_untaken : (count : ℕ) (disk : View) (left : Option (List ℕ))
+    → IfSome left (λ input. CostsFrom count disk disk input disk.reads disk.syncs)
 costs_untaken count disk left =
-    told_each left (λ input. CostsFrom count disk disk input disk.reads disk.syncs) (λ input total book holds. none_cost input (record { live = begun_live total book; reads = disk.reads; syncs = disk.syncs }) disk.beside.pieces disk.beside.pieces)
+    told_each left (λ input. CostsFrom count disk disk input disk.reads disk.syncs)
+    (λ input total book holds. none_cost input (record { live = begun_live total book; reads = disk.reads; syncs = disk.syncs })
+    disk.beside.pieces disk.beside.pieces)
 
 -- by a service without sessions
-pub costs_from : (count : ℕ) (old new : View) (before now : ℕ) → old.beside.pieces ≡ before → new.beside.pieces ≡ now → RestsNew count old → (left : Option (List ℕ)) (state : ℕ → List Series → LiveState) → ((total : ℕ) (book : List Series) → state total book ≡ begun_live total book)
-    → ((total : ℕ) (book : List Series) → Honest old → StandsForBook (pages_of count old.image) total book → IfSome left (λ input. CostsLines input (record { live = state total book; reads = old.reads; syncs = old.syncs }) before now new.reads new.syncs)) → IfSome left (λ input. CostsFrom count old new input old.reads old.syncs)
+pub costs_from : (count : ℕ) (old new : View) (before now : ℕ) → old.beside.pieces ≡ before → new.beside.pieces ≡ now → RestsNew count old
+    → (left : Option (List ℕ)) (state : ℕ → List Series → LiveState)
+    → ((total : ℕ) (book : List Series) → state total book ≡ begun_live total book)
+    → ((total : ℕ) (book : List Series) → Honest old → StandsForBook (pages_of count old.image) total book
+    → IfSome left (λ input. CostsLines input (record { live = state total book; reads = old.reads; syncs = old.syncs }) before now
+    new.reads new.syncs)) → IfSome left (λ input. CostsFrom count old new input old.reads old.syncs)
 costs_from count old new before now begun ended rests None state begins costs = tt
 costs_from count old new before now begun ended rests (Some input) state begins costs = λ total book holds.
-    let B : ℕ → Type 0 = λ n. CostsLines input (record { live = state total book; reads = old.reads; syncs = old.syncs }) n now new.reads new.syncs in
-    let N : ℕ → Type 0 = λ n. CostsLines input (record { live = state total book; reads = old.reads; syncs = old.syncs }) old.beside.pieces n new.reads new.syncs in
-    let P : LiveState → Type 0 = λ s. CostsLines input (record { live = s; reads = old.reads; syncs = old.syncs }) old.beside.pieces new.beside.pieces new.reads new.syncs in
-    subst P (begins total book) (subst N (sym ended) (subst B (sym begun) (costs total book holds.honest (stands_held count total book old rests holds))))
+    let B : ℕ → Type 0 = λ n. CostsLines input (record { live = state total book; reads = old.reads; syncs = old.syncs }) n now new.reads
+    new.syncs in
+    let N : ℕ → Type 0 = λ n. CostsLines input (record { live = state total book; reads = old.reads; syncs = old.syncs }) old.beside.pieces
+    n new.reads new.syncs in
+    let P : LiveState → Type 0 = λ s. CostsLines input
+    (record { live = s; reads = old.reads; syncs = old.syncs }) old.beside.pieces new.beside.pieces new.reads new.syncs in
+    subst P (begins total book) (subst N (sym ended)
+    (subst B (sym begun) (costs total book holds.honest (stands_held count total book old rests holds))))
 
 -- over a store that is opened first, or isn't
-pub costs_on : (count : ℕ) (old mid new : View) (left_mid left : Option (List ℕ)) → count ≡ page_count old.size → Opens (page_count old.size) old mid → left_mid ≡ left → IfSome left_mid (λ input. CostsFrom count mid new input mid.reads mid.syncs) → IfSome left (λ input. CostsHosting old new input)
+pub costs_on : (count : ℕ) (old mid new : View) (left_mid left : Option (List ℕ)) → count ≡ page_count old.size
+    → Opens (page_count old.size) old mid → left_mid ≡ left → IfSome left_mid (λ input. CostsFrom count mid new input mid.reads mid.syncs)
+    → IfSome left (λ input. CostsHosting old new input)
 costs_on count old mid new left_mid left counted opens same costs =
     let C : ℕ → Type 0 = λ n. IfSome left_mid (λ input. CostsFrom n mid new input mid.reads mid.syncs) in
     let L : Option (List ℕ) → Type 0 = λ l. IfSome l (λ input. CostsFrom (page_count old.size) mid new input mid.reads mid.syncs) in
     opened left (subst L same (subst C counted costs))
   where
-    opened : (o : Option (List ℕ)) → IfSome o (λ input. CostsFrom (page_count old.size) mid new input mid.reads mid.syncs) → IfSome o (λ input. CostsHosting old new input)
+    opened : (o : Option (List ℕ)) → IfSome o (λ input. CostsFrom (page_count old.size) mid new input mid.reads mid.syncs)
+        → IfSome o (λ input. CostsHosting old new input)
     opened None costs = tt
     opened (Some input) costs = record {
       reads = mid.reads;
@@ -356,17 +479,21 @@ costs_on count old mid new left_mid left counted opens same costs =
       few_reads = opens.reads.high;
       few_syncs = syncs_few (page_count old.size) old mid opens.few;
       costs = λ total book holds.
-          let P : Beside → Type 0 = λ b. CostsLines input (record { live = begun_live total book; reads = mid.reads; syncs = mid.syncs }) b.pieces new.beside.pieces new.reads new.syncs in
+          let P : Beside → Type 0 = λ b. CostsLines input
+          (record { live = begun_live total book; reads = mid.reads; syncs = mid.syncs }) b.pieces new.beside.pieces new.reads new.syncs
+          in
           subst P opens.beside_is (costs total book (held old mid opens total book holds));
     }
 
-pub costs_unopened : (old new : View) (left : Option (List ℕ)) → Opens (page_count old.size) old new → IfSome left (λ input. CostsHosting old new input)
+pub costs_unopened : (old new : View) (left : Option (List ℕ)) → Opens (page_count old.size) old new
+    → IfSome left (λ input. CostsHosting old new input)
 costs_unopened old new left opens = told_each left (λ input. CostsHosting old new input) (λ input. record {
   reads = new.reads;
   syncs = new.syncs;
   few_reads = opens.reads.high;
   few_syncs = syncs_few (page_count old.size) old new opens.few;
-  costs = λ total book holds. none_cost input (record { live = begun_live total book; reads = new.reads; syncs = new.syncs }) old.beside.pieces new.beside.pieces;
+  costs = λ total book holds. none_cost input (record { live = begun_live total book; reads = new.reads; syncs = new.syncs })
+      old.beside.pieces new.beside.pieces;
 })
 
 -- where no store was opened, the run wasn't done

@@ -1,5 +1,6 @@
 -- A client follows the frames of a host's run that it is sent.
-use Rattle.std.proofs.Common.{◌≡◌, ◌∙◌, ℕ, Bool, true, false, List, [], ◌∷◌, ◌++◌, map, Option, None, Some, Result, Ok, Err, refl, sym, ap, subst, inl, inr, append_assoc}
+use Rattle.std.proofs.Common.{◌≡◌, ◌∙◌, ℕ, Bool, true, false, List, [], ◌∷◌, ◌++◌, map, Option, None, Some, Result, Ok, Err, refl, sym, ap}
+use Rattle.std.proofs.Common.{subst, inl, inr, append_assoc}
 use Rattle.std.specs.List.{filter}
 use Rattle.std.proofs.lemmas.Bool.{eqb-true}
 use Rattle.line_raster.specs.Canvas.{Canvas}
@@ -13,7 +14,8 @@ use Rattle.chart_service.specs.EditGroups.{RepliesToEdits}
 use Rattle.chart_service.specs.Replies.{Edits, Replies}
 use Rattle.chart_service.specs.Serving.{told}
 use Rattle.chart_service.specs.State.{IsSound, State}
-use Rattle.drawn_replies.proofs.Sending.{AllFollow, all_sent, each_follows, follow_one, follow_then, follows_so, next, none_drawn, none_rejected}
+use Rattle.drawn_replies.proofs.Sending.{AllFollow, all_sent, each_follows, follow_one, follow_then, follows_so, next, none_drawn}
+use Rattle.drawn_replies.proofs.Sending.{none_rejected}
 use Rattle.drawn_replies.specs.Mirrors.{DrawsTheBook, IsPictureOf, Mirrors, OnlyLacksMemory, mirrored}
 use Rattle.drawn_replies.specs.Pictures.{AcceptsAll, IsDrawn, NoneRejected, names}
 use Rattle.drawn_replies.specs.Sent.{Follows, FollowsOwn, each}
@@ -124,7 +126,10 @@ all_client law laws t = record {
       (λ h m. laws.push_draws frame old new h sound pushed m) (λ h m. laws.push_accepts frame old new h sound pushed m);
   edits = λ edit frame old new sound replied.
       each_follows frame old new (λ d. d ≡ None)
-      (λ h m d now a. ((law.draws (EditRequest edit) frame old new h sound replied m d now a).0, edit_none (apply old.book old.total edit) frame old new d h now replied a))
+      (λ h m d now a. (
+        (law.draws (EditRequest edit) frame old new h sound replied m d now a).0,
+        edit_none (apply old.book old.total edit) frame old new d h now replied a,
+      ))
       (λ h m. law.accepts (EditRequest edit) frame old new h sound replied m);
   steps = λ rule frame old new replied.
       each_follows frame old.state new.state (λ d. d ≡ None)
@@ -192,7 +197,8 @@ own_report order n asked frame state reported =
     let drawn = report_drawn order asked frame state reported in
     record {
       draws = λ named h m d now a. let t = drawn.takes d h now a in (t.0 ∙ m, t.1);
-      accepts = λ named h m. drawn.lacks (only n state.sessions) h (λ k is. own_open n frame k state.sessions named is (drawn.opened k is)) m;
+      accepts = λ named h m. drawn.lacks (only n state.sessions) h
+          (λ k is. own_open n frame k state.sessions named is (drawn.opened k is)) m;
       stays = λ unnamed. refl;
     }
 
@@ -221,12 +227,21 @@ module _ (is_sent : Frame → Bool) (some : List Session → List Session) (clie
     pub mirrors : Mirrors (some new.sessions) holdings
     pub others : AcceptsAll holdings (filter is_sent more) later now
 
-  edits_drawn : (edits : List Edit) (frames more : List Frame) (drawings : List (Option Canvas)) (old new : State) (holdings now : List Holding)
+  edits_drawn : (edits : List Edit) (frames more : List Frame) (drawings : List (Option Canvas)) (old new : State)
+      (holdings now : List Holding)
       → IsSound old → RepliesToEdits edits frames old new → Mirrors (some old.sessions) holdings
       → AcceptsAll holdings (filter is_sent (frames ++ more)) drawings now → EditsDrawn frames more drawings new now
   edits_drawn [] [] more drawings old new holdings now sound same m a =
       let P : State → Type 0 = λ s. Mirrors (some s.sessions) holdings in
-      record { drawn = []; later = drawings; drawings_are = refl; none = refl; holdings = holdings; mirrors = subst P (sym same) m; others = a }
+      record {
+        drawn = [];
+        later = drawings;
+        drawings_are = refl;
+        none = refl;
+        holdings = holdings;
+        mirrors = subst P (sym same) m;
+        others = a;
+      }
   edits_drawn [] (f ∷ fs) more drawings old new holdings now sound replied m a = absurd replied
   edits_drawn (e ∷ es) [] more drawings old new holdings now sound replied m a = absurd replied
   edits_drawn (e ∷ es) (f ∷ fs) more drawings old new holdings now sound replied m a =
@@ -250,7 +265,8 @@ module _ (is_sent : Frame → Bool) (some : List Session → List Session) (clie
       → ArePictured is_sent between events more rest new × Mirrors (some new.state.sessions) now
 
   -- an event of one frame, and those behind it
-  one_then : (event : Event) (events : List Event) (frames : List Frame) (drawings : List (Option Canvas)) (old new : LiveState) (holdings now : List Holding) (frame : Frame) (IsSo : Option Canvas → Type 0)
+  one_then : (event : Event) (events : List Event) (frames : List Frame) (drawings : List (Option Canvas)) (old new : LiveState)
+      (holdings now : List Holding) (frame : Frame) (IsSo : Option Canvas → Type 0)
       → (row : OneThen (Happens event) (λ between more. InRow Happens between events more new) old frames)
       → row.first ≡ frame ∷ []
       → Follows is_sent some frame old.state row.between.state IsSo
@@ -297,7 +313,8 @@ module _ (is_sent : Frame → Bool) (some : List Session → List Session) (clie
       → InRow Happens old events frames new → Mirrors (some old.state.sessions) holdings
       → AcceptsAll holdings (filter is_sent frames) drawings now
       → ArePictured is_sent old events frames drawings new × Mirrors (some new.state.sessions) now
-  follows f g [] frames drawings old new holdings now short sound well row m a = none_left frames drawings old new holdings now row.0 row.1 m a
+  follows f g [] frames drawings old new holdings now short sound well row m a = none_left frames drawings old new holdings now row.0 row.1
+      m a
   follows f g (answer line ∷ events) frames drawings old new holdings now short sound well row m a =
       let one = row.happens in
       one_then (answer line) events frames drawings old new holdings now one.frame
@@ -312,7 +329,8 @@ module _ (is_sent : Frame → Bool) (some : List Session → List Session) (clie
       let one = row.happens in
       let S : LiveState → Type 0 = λ s. IsSound s.state in
       let W : LiveState → Type 0 = λ s. FollowsWell s in
-      let F : LiveState → Type 0 = λ s. Follows is_sent some one.frame old.state s.state (PicturesAsked (host_line line) old.state.book one.frame) in
+      let F : LiveState → Type 0 = λ s. Follows is_sent some one.frame old.state s.state
+      (PicturesAsked (host_line line) old.state.book one.frame) in
       one_then (report line) events frames drawings old new holdings now one.frame
       (PicturesAsked (host_line line) old.state.book one.frame) row one.frames_are
       (subst F (sym one.same) (client.reports (host_line line) one.frame old.state one.reported))
@@ -361,7 +379,8 @@ module _ (is_sent : Frame → Bool) (some : List Session → List Session) (clie
         book = goes.push_book one.frame old row.between one.pushed;
         picture = picture;
       }) in
-      one_then push events frames drawings old new holdings now one.frame (λ d. ShowsPush one.frame d old row.between) row one.frames_are shown
+      one_then push events frames drawings old new holdings now one.frame
+      (λ d. ShowsPush one.frame d old row.between) row one.frames_are shown
       (λ drawn is. record { frame = one.frame; frames_are = one.frames_are; pushed = one.pushed; drawn = is })
       (λ rest h mirrors accepted.
       follows f g events row.more rest row.between new h now short one.pushed.replied.2
@@ -391,7 +410,8 @@ module _ (is_sent : Frame → Bool) (some : List Session → List Session) (clie
       (edits_follow es fs replied.0 new replied.1.2 replied.2)
 
   -- an event of one frame
-  one_follows : (event : Event) (events : List Event) (frames : List Frame) (old new : LiveState) (frame : Frame) (IsSo : Option Canvas → Type 0)
+  one_follows : (event : Event) (events : List Event) (frames : List Frame) (old new : LiveState) (frame : Frame) (IsSo : Option Canvas
+      → Type 0)
       → (row : OneThen (Happens event) (λ between more. InRow Happens between events more new) old frames)
       → row.first ≡ frame ∷ []
       → Follows is_sent some frame old.state row.between.state IsSo → AllFollow is_sent some row.between.state row.more new.state
@@ -404,7 +424,8 @@ module _ (is_sent : Frame → Bool) (some : List Session → List Session) (clie
   all_follow : (events : List Event) (frames : List Frame) (old new : LiveState) → IsSound old.state
       → InRow Happens old events frames new → AllFollow is_sent some old.state frames new.state
   all_follow [] frames old new sound row =
-      let F : List Frame → Type 0 = λ l. AllFollow is_sent some old.state l new.state in subst F (sym row.0) (ap (λ (s : LiveState). s.state) row.1)
+      let F : List Frame → Type 0 = λ l. AllFollow is_sent some old.state l new.state in
+      subst F (sym row.0) (ap (λ (s : LiveState). s.state) row.1)
   all_follow (answer line ∷ events) frames old new sound row =
       let one = row.happens in
       one_follows (answer line) events frames old new one.frame
@@ -414,7 +435,8 @@ module _ (is_sent : Frame → Bool) (some : List Session → List Session) (clie
   all_follow (report line ∷ events) frames old new sound row =
       let one = row.happens in
       let S : LiveState → Type 0 = λ s. IsSound s.state in
-      let F : LiveState → Type 0 = λ s. Follows is_sent some one.frame old.state s.state (PicturesAsked (host_line line) old.state.book one.frame) in
+      let F : LiveState → Type 0 = λ s. Follows is_sent some one.frame old.state s.state
+      (PicturesAsked (host_line line) old.state.book one.frame) in
       one_follows (report line) events frames old new one.frame
       (PicturesAsked (host_line line) old.state.book one.frame) row one.frames_are
       (subst F (sym one.same) (client.reports (host_line line) one.frame old.state one.reported))
@@ -430,7 +452,8 @@ module _ (is_sent : Frame → Bool) (some : List Session → List Session) (clie
       let later = all_follow events row.more row.between new
       (sound_edits one.edits row.first old.state row.between.state one.replied.replied sound) row.later in
       subst F (sym row.frames_are)
-      (follow_then is_sent some old.state row.between.state new.state row.first row.more (edits_follow one.edits row.first old.state row.between.state sound one.replied.replied) later)
+      (follow_then is_sent some old.state row.between.state new.state row.first row.more
+      (edits_follow one.edits row.first old.state row.between.state sound one.replied.replied) later)
   all_follow (push ∷ events) frames old new sound row =
       let one = row.happens in
       one_follows push events frames old new one.frame (IsPictureOf old.state row.between.state one.frame) row one.frames_are
@@ -455,13 +478,15 @@ pub hosts_drawn : Requests → Laws → Following → Groups → Steps
     → PicturesLines (told input) frames drawings old new × Mirrors new.state.sessions now
 hosts_drawn law laws f g t input frames drawings old new now sound first by a =
     let A : List Frame → Type 0 = λ l. AcceptsAll [] l drawings now in
-    some_drawn each (λ ss. ss) (all_client law laws t) (goes_by laws) f g input frames drawings old new now sound first (first_mirrors old first) by (subst A (sym (all_sent frames)) a)
+    some_drawn each (λ ss. ss) (all_client law laws t) (goes_by laws) f g input frames drawings old new now sound first
+    (first_mirrors old first) by (subst A (sym (all_sent frames)) a)
 
 pub hosts_accepted : Requests → Laws → Steps → (lines : List (Option (List ℕ))) (frames : List Frame) (old new : LiveState)
     → IsSound old.state → IsFirst old → HostedBy lines frames old new → NoneRejected frames
 hosts_accepted law laws t lines frames old new sound first by =
     let N : List Frame → Type 0 = λ l. NoneRejected l in
-    subst N (all_sent frames) (some_accepted each (λ ss. ss) (all_client law laws t) (goes_by laws) lines frames old new sound (first_mirrors old first) by)
+    subst N (all_sent frames) (some_accepted each (λ ss. ss) (all_client law laws t) (goes_by laws) lines frames old new sound
+    (first_mirrors old first) by)
 
 own_first : (n : ℕ) (live : LiveState) → IsFirst live → Mirrors (only n live.state.sessions) []
 own_first n live first = ap (λ ss. map mirrored (only n ss)) (sym first.sessions)

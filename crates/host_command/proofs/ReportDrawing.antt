@@ -88,7 +88,8 @@ refused_is frame refusal is = quiet_so frame (refused refusal) is (number_quiet 
 values_told : (o : Option Series) (id : ℕ) (t0 t1 : ℤ) (frame : Frame) → TellsValues o id t0 t1 frame → IsQuiet frame
 values_told None id t0 t1 frame tells = refused_is frame UnknownSeries tells
 values_told (Some series) id t0 t1 frame (inl bad) = refused_is frame BadWindow bad.1
-values_told (Some series) id t0 t1 frame (inr good) = quiet_so frame (Report (report.Values (values_of id series t0 t1))) good.1 (report_quiet _)
+values_told (Some series) id t0 t1 frame (inr good) = quiet_so frame (Report (report.Values (values_of id series t0 t1))) good.1
+    (report_quiet _)
 
 values_quiet : (o : Option ℕ) (book : List Series) (t0 t1 : ℤ) (frame : Frame) → TellsValuesOf o book t0 t1 frame → IsQuiet frame
 values_quiet None book t0 t1 frame tells = refused_is frame UnknownSeries tells
@@ -105,7 +106,8 @@ quiet_open frame sessions quiet = λ n is. absurd (none_some (sym quiet.aside �
 
 -- a client holds behind the frame what it held, and its drawing is the chart of the sum
 record DrawsSum (book : List Series) (r : Request) (sessions : List Session) (frame : Frame) : Type 0 where
-  pub takes : (drawing : Option Canvas) (old now : List Holding) → Accepts frame drawing old now → (now ≡ old) × PicturesSum book r frame drawing
+  pub takes : (drawing : Option Canvas) (old now : List Holding) → Accepts frame drawing old now
+      → (now ≡ old) × PicturesSum book r frame drawing
   pub opened : NamesOpen frame sessions
   pub lacks : (some : List Session) (old : List Holding) → NamesOpen frame some → Mirrors some old → OnlyLacksMemory frame old
 
@@ -119,19 +121,22 @@ some_none : {holding : Holding} → ◌≡◌ {A = Option Holding} (Some holding
 some_none is = cc
 
 -- the session of the rows is held
-sum_held : (n : ℕ) (sessions : List Session) (old : List Holding) → is_open n sessions ≡ true → Mirrors sessions old → holding_of n old ≡ None → ⊥
+sum_held : (n : ℕ) (sessions : List Session) (old : List Holding) → is_open n sessions ≡ true → Mirrors sessions old
+    → holding_of n old ≡ None → ⊥
 sum_held n sessions old opened m gone =
     let one = there n sessions opened in
     some_none (sym (ap (λ hs. holding_of n hs) m ∙ held n sessions ∙ ap (option_map mirrored) one.1) ∙ gone)
 
-sum_lacks : (rows : RowsFrame) (sessions : List Session) (old : List Holding) → is_open rows.session sessions ≡ true → Mirrors sessions old → OnlyLacksMemory (Rows rows) old
+sum_lacks : (rows : RowsFrame) (sessions : List Session) (old : List Holding) → is_open rows.session sessions ≡ true → Mirrors sessions old
+    → OnlyLacksMemory (Rows rows) old
 sum_lacks rows sessions old opened m (Missing key) rejects = absurd (rows_no_view rejects.is)
 sum_lacks rows sessions old opened m (BadCoefficient key) rejects = absurd (rows_no_view rejects.is)
 sum_lacks rows sessions old opened m (UnknownSession n) rejects =
     absurd (sum_held rows.session sessions old opened m (ap (λ i. holding_of i old) (some_number rejects.0) ∙ rejects.1))
 sum_lacks rows sessions old opened m NoMemory rejects = refl
 
-sum_pictured : Orders → (book : List Series) (r : Request) (session : ℕ) (rows : RowsFrame) (drawing : Canvas) (old now : List Holding) → HasSumRows book r session rows → AcceptsRows rows drawing old now → PicturesSum book r (Rows rows) (Some drawing)
+sum_pictured : Orders → (book : List Series) (r : Request) (session : ℕ) (rows : RowsFrame) (drawing : Canvas) (old now : List Holding)
+    → HasSumRows book r session rows → AcceptsRows rows drawing old now → PicturesSum book r (Rows rows) (Some drawing)
 sum_pictured order book r session rows drawing old now has accepts =
     let grid = has.grid in
     let range = has.fields.range in
@@ -139,7 +144,8 @@ sum_pictured order book r session rows drawing old now has accepts =
     let A : RowsFrame → Type 0 = λ f. AcceptsRows f drawing old now in
     let a = subst A has.fields.is accepts in
     let draws : DrawsPoints grid range.lo range.hi (sample_points samples) drawing =
-    a.draws grid (sample_points samples) (record { columns = refl; rows = refl }) (order has.are.sums has.are.axis grid has.are.step) has.are.rows_are in
+    a.draws grid (sample_points samples) (record { columns = refl; rows = refl })
+    (order has.are.sums has.are.axis grid has.are.step) has.are.rows_are in
     let P : List Point → Type 0 = λ ps. (x y : ℕ) → x < grid.w → y < grid.h → IsTrue (black_at drawing x y) ↔ InRaster ps x (pos y) in
     record {
       series = has.series;
@@ -155,7 +161,8 @@ sum_pictured order book r session rows drawing old now has accepts =
       };
     }
 
-rows_drawn : Orders → (book : List Series) (r : Request) (session : ℕ) (sessions : List Session) (rows : RowsFrame) → is_open session sessions ≡ true → HasSumRows book r session rows → DrawsSum book r sessions (Rows rows)
+rows_drawn : Orders → (book : List Series) (r : Request) (session : ℕ) (sessions : List Session) (rows : RowsFrame)
+    → is_open session sessions ≡ true → HasSumRows book r session rows → DrawsSum book r sessions (Rows rows)
 rows_drawn order book r session sessions rows open_is has = record {
   takes = λ drawing old now accepts. taken drawing old now accepts;
   opened = λ n is.
@@ -165,11 +172,13 @@ rows_drawn order book r session sessions rows open_is has = record {
   lacks = λ some old named m. sum_lacks rows some old (named rows.session refl) m;
 }
   where
-    taken : (drawing : Option Canvas) (old now : List Holding) → Accepts (Rows rows) drawing old now → (now ≡ old) × PicturesSum book r (Rows rows) drawing
+    taken : (drawing : Option Canvas) (old now : List Holding) → Accepts (Rows rows) drawing old now
+        → (now ≡ old) × PicturesSum book r (Rows rows) drawing
     taken None old now accepts = absurd accepts
     taken (Some drawing) old now accepts = (accepts.1.holdings, sum_pictured order book r session rows drawing old now has accepts.1)
 
-refusal_drawn : (book : List Series) (r : Request) (sessions : List Session) (number a b : ℕ) → DrawsSum book r sessions (Refused number a b)
+refusal_drawn : (book : List Series) (r : Request) (sessions : List Session) (number a b : ℕ)
+    → DrawsSum book r sessions (Refused number a b)
 refusal_drawn book r sessions number a b =
     let quiet = number_quiet number a b in
     record {
@@ -178,12 +187,14 @@ refusal_drawn book r sessions number a b =
       lacks = λ some old named m. quiet.lacks old;
     }
 
-refuses_drawn : (book : List Series) (r : Request) (sessions : List Session) (frame : Frame) → RefusesSum book r frame → DrawsSum book r sessions frame
+refuses_drawn : (book : List Series) (r : Request) (sessions : List Session) (frame : Frame) → RefusesSum book r frame
+    → DrawsSum book r sessions frame
 refuses_drawn book r sessions frame refuses =
     let D : Frame → Type 0 = λ f. DrawsSum book r sessions f in
     subst D (sym refuses.frame_is) (refusal_drawn book r sessions _ _ _)
 
-sum_drawn : Orders → (book : List Series) (r : Request) (session : ℕ) (sessions : List Session) (frame : Frame) → is_open session sessions ≡ true → AnswersSum book r session frame → DrawsSum book r sessions frame
+sum_drawn : Orders → (book : List Series) (r : Request) (session : ℕ) (sessions : List Session) (frame : Frame)
+    → is_open session sessions ≡ true → AnswersSum book r session frame → DrawsSum book r sessions frame
 sum_drawn order book r session sessions (Rows rows) opened tells = rows_drawn order book r session sessions rows opened tells
 sum_drawn order book r session sessions frame opened tells = refuses_drawn book r sessions frame tells
 
@@ -191,20 +202,34 @@ sum_drawn order book r session sessions frame opened tells = refuses_drawn book 
 
 -- a client holds behind the frame what it held, and its drawing is the picture of what was asked
 pub record DrawsAsked (asked : HostLine) (frame : Frame) (state : State) : Type 0 where
-  pub takes : (drawing : Option Canvas) (old now : List Holding) → Accepts frame drawing old now → (now ≡ old) × PicturesAsked asked state.book frame drawing
+  pub takes : (drawing : Option Canvas) (old now : List Holding) → Accepts frame drawing old now
+      → (now ≡ old) × PicturesAsked asked state.book frame drawing
   pub opened : NamesOpen frame state.sessions
   pub lacks : (some : List Session) (old : List Holding) → NamesOpen frame some → Mirrors some old → OnlyLacksMemory frame old
 
 quiet_list : (frame : Frame) (state : State) → IsQuiet frame → DrawsAsked ListLine frame state
-quiet_list frame state quiet = record { takes = λ drawing old now a. let t = quiet.takes drawing old now a in (t.1, t.0); opened = quiet_open frame state.sessions quiet; lacks = λ some old named m. quiet.lacks old }
+quiet_list frame state quiet = record {
+  takes = λ drawing old now a. let t = quiet.takes drawing old now a in (t.1, t.0);
+  opened = quiet_open frame state.sessions quiet;
+  lacks = λ some old named m. quiet.lacks old;
+}
 
 quiet_values : (name : List ℕ) (t0 t1 : ℤ) (frame : Frame) (state : State) → IsQuiet frame → DrawsAsked (Values name t0 t1) frame state
-quiet_values name t0 t1 frame state quiet = record { takes = λ drawing old now a. let t = quiet.takes drawing old now a in (t.1, t.0); opened = quiet_open frame state.sessions quiet; lacks = λ some old named m. quiet.lacks old }
+quiet_values name t0 t1 frame state quiet = record {
+  takes = λ drawing old now a. let t = quiet.takes drawing old now a in (t.1, t.0);
+  opened = quiet_open frame state.sessions quiet;
+  lacks = λ some old named m. quiet.lacks old;
+}
 
 quiet_bad : (at : ℕ) (frame : Frame) (state : State) → IsQuiet frame → DrawsAsked (Bad at) frame state
-quiet_bad at frame state quiet = record { takes = λ drawing old now a. let t = quiet.takes drawing old now a in (t.1, t.0); opened = quiet_open frame state.sessions quiet; lacks = λ some old named m. quiet.lacks old }
+quiet_bad at frame state quiet = record {
+  takes = λ drawing old now a. let t = quiet.takes drawing old now a in (t.1, t.0);
+  opened = quiet_open frame state.sessions quiet;
+  lacks = λ some old named m. quiet.lacks old;
+}
 
-sum_asked : Orders → (b : Bool) (session : ℕ) (r : Request) (frame : Frame) (state : State) → is_open session state.sessions ≡ b → TellsIf b (Sum session r) state.total state.book frame → DrawsAsked (Sum session r) frame state
+sum_asked : Orders → (b : Bool) (session : ℕ) (r : Request) (frame : Frame) (state : State) → is_open session state.sessions ≡ b
+    → TellsIf b (Sum session r) state.total state.book frame → DrawsAsked (Sum session r) frame state
 sum_asked order false session r frame state opened tells =
     let D : Frame → Type 0 = λ f. DrawsSum state.book r state.sessions f in
     let drawn = subst D (sym tells) (refusal_drawn state.book r state.sessions _ _ _) in
@@ -214,8 +239,10 @@ sum_asked order true session r frame state opened tells =
     record { takes = drawn.takes; opened = drawn.opened; lacks = drawn.lacks }
 
 pub report_drawn : Orders → (asked : HostLine) (frame : Frame) (state : State) → Reported asked frame state → DrawsAsked asked frame state
-report_drawn order ListLine frame state tells = quiet_list frame state (quiet_so frame (Report (report.Catalog (catalog_of state.total state.book))) tells (report_quiet _))
-report_drawn order (Values name t0 t1) frame state tells = quiet_values name t0 t1 frame state (values_quiet (id_of name state.book) state.book t0 t1 frame tells)
+report_drawn order ListLine frame state tells = quiet_list frame state
+    (quiet_so frame (Report (report.Catalog (catalog_of state.total state.book))) tells (report_quiet _))
+report_drawn order (Values name t0 t1) frame state tells = quiet_values name t0 t1 frame state
+    (values_quiet (id_of name state.book) state.book t0 t1 frame tells)
 report_drawn order (Sum session r) frame state tells = sum_asked order (is_open session state.sessions) session r frame state refl tells
 report_drawn order (Sweep rule) frame state tells = absurd tells
 report_drawn order (Bad at) frame state tells = quiet_bad at frame state (refused_is frame (BadLine at) tells)

@@ -21,7 +21,8 @@ use Rattle.series_book.specs.declared.one_series.Series.{Series}
 use Rattle.series_pair.specs.Derived.{IsDerivedChart}
 
 -- a line is answered, and the drawing is its frame's picture of the book as it is at that line
-pub record PicturesAnswer (is_sent : Frame → Bool) (line : Option (List ℕ)) (frames : List Frame) (drawings : List (Option Canvas)) (old new : LiveState) : Type 0 where
+pub record PicturesAnswer (is_sent : Frame → Bool) (line : Option (List ℕ)) (frames : List Frame) (drawings : List (Option Canvas))
+    (old new : LiveState) : Type 0 where
   pub frame : Frame
   pub frames_are : frames ≡ frame ∷ []
   pub replied : LiveReplied line frame old new
@@ -50,7 +51,8 @@ PicturesAsked (Bad at) book frame drawing = drawing ≡ None
 PicturesAsked Other book frame drawing = drawing ≡ None
 
 -- what a line asks of the host alone is reported, and the drawing is the frame's picture of the book as it is at that line
-pub record PicturesReport (is_sent : Frame → Bool) (line : List ℕ) (frames : List Frame) (drawings : List (Option Canvas)) (old new : LiveState) : Type 0 where
+pub record PicturesReport (is_sent : Frame → Bool) (line : List ℕ) (frames : List Frame) (drawings : List (Option Canvas))
+    (old new : LiveState) : Type 0 where
   pub frame : Frame
   pub frames_are : frames ≡ frame ∷ []
   pub reported : Reported (host_line line) frame old.state
@@ -58,17 +60,20 @@ pub record PicturesReport (is_sent : Frame → Bool) (line : List ℕ) (frames :
   pub same : new ≡ old
 
 -- the step of a sweep is done that a line asks for, of which nothing is drawn
-pub record PicturesStep (is_sent : Frame → Bool) (line : List ℕ) (frames : List Frame) (drawings : List (Option Canvas)) (old new : LiveState) : Type 0 where
+pub record PicturesStep (is_sent : Frame → Bool) (line : List ℕ) (frames : List Frame) (drawings : List (Option Canvas))
+    (old new : LiveState) : Type 0 where
   pub does : Sweeps line frames old new
   pub none : IsDrawn (is_sent does.frame) (λ drawing. drawing ≡ None) drawings
 
 -- edits are done together, of which nothing is drawn
-pub record PicturesGroup (is_sent : Frame → Bool) (lines : List (Option (List ℕ))) (frames : List Frame) (drawings : List (Option Canvas)) (old new : LiveState) : Type 0 where
+pub record PicturesGroup (is_sent : Frame → Bool) (lines : List (Option (List ℕ))) (frames : List Frame) (drawings : List (Option Canvas))
+    (old new : LiveState) : Type 0 where
   pub does : DoesGroup lines frames old new
   pub none : drawings ≡ map (λ frame. None) (filter is_sent frames)
 
 -- a push is made, which shows a view and leaves the book, and the drawing is its picture of the book
-pub record PicturesPush (is_sent : Frame → Bool) (frames : List Frame) (drawings : List (Option Canvas)) (old new : LiveState) : Type 0 where
+pub record PicturesPush (is_sent : Frame → Bool) (frames : List Frame) (drawings : List (Option Canvas))
+    (old new : LiveState) : Type 0 where
   pub frame : Frame
   pub frames_are : frames ≡ frame ∷ []
   pub pushed : Pushed frame old new
@@ -83,7 +88,8 @@ PicturesEvent is_sent (group lines) frames drawings old new = PicturesGroup is_s
 PicturesEvent is_sent push frames drawings old new = PicturesPush is_sent frames drawings old new
 
 -- one of them, and those behind it
-pub record PicturedThen (is_sent : Frame → Bool) (event : Event) (others : LiveState → List Frame → List (Option Canvas) → Type 0) (old : LiveState) (frames : List Frame) (drawings : List (Option Canvas)) : Type 0 where
+pub record PicturedThen (is_sent : Frame → Bool) (event : Event) (others : LiveState → List Frame → List (Option Canvas)
+    → Type 0) (old : LiveState) (frames : List Frame) (drawings : List (Option Canvas)) : Type 0 where
   pub first : List Frame
   pub drawn : List (Option Canvas)
   pub between : LiveState
@@ -101,7 +107,8 @@ ArePictured is_sent old (event ∷ events) frames drawings new =
     PicturedThen is_sent event (λ between more more_drawn. ArePictured is_sent between events more more_drawn new) old frames drawings
 
 -- these lines are answered and pictured so, and so are the pushes behind them
-pub record PicturesSome (is_sent : Frame → Bool) (lines : List (Option (List ℕ))) (frames : List Frame) (drawings : List (Option Canvas)) (old new : LiveState) : Type 0 where
+pub record PicturesSome (is_sent : Frame → Bool) (lines : List (Option (List ℕ))) (frames : List Frame) (drawings : List (Option Canvas))
+    (old new : LiveState) : Type 0 where
   pub events : List Event
   pub lines_are : lines_in events ≡ lines
   pub pictured : ArePictured is_sent old events frames drawings new

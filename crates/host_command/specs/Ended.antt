@@ -6,7 +6,8 @@ use Rattle.chart_service.specs.Moments.{Since}
 use Rattle.gate_pages.specs.Journal.{page_count}
 use Rattle.gate_pages.specs.Pages.{GoesOn}
 use Rattle.run_ends.specs.declared.ending.End.{End}
-use Rattle.run_ends.specs.declared.ending.End.TheVariants.{Done, NoMemory, ReadFault, SendFault, DiskFault, DamagedBlock, DamagedPage, InputTooLong, TooSmall}
+use Rattle.run_ends.specs.declared.ending.End.TheVariants.{Done, NoMemory, ReadFault, SendFault, DiskFault, DamagedBlock, DamagedPage}
+use Rattle.run_ends.specs.declared.ending.End.TheVariants.{InputTooLong, TooSmall}
 use Rattle.run_ends.specs.Statuses.{block_of}
 use Rattle.stored_book.specs.Standing.{RecoversTo}
 use Rattle.store_commands.specs.Books.{HoldsAgain, OfBook, Holds}
@@ -36,13 +37,15 @@ IsHostCause end old new t = ⊥
 -- at most 64 edits more.
 abbrev pub LeavesHosted : ℕ → List ℕ → View → View → Type 0
 LeavesHosted count input old new =
-    OfBook count old (λ total book. Since old new (λ image sent. IsAhead (λ after. RecoversTo count image total after) input (begun_live total book) (sent_now old) sent))
+    OfBook count old (λ total book. Since old new (λ image sent. IsAhead (λ after. RecoversTo count image total after) input
+    (begun_live total book) (sent_now old) sent))
 
 -- the lines, the groups and the pushes cost no more than they may from these counts on, nothing else is read or synced, and
 -- there are few groups
 abbrev pub CostsFrom : ℕ → View → View → List ℕ → ℕ → ℕ → Type 0
 CostsFrom count old new input reads syncs =
-    OfBook count old (λ total book. CostsLines input (record { live = begun_live total book; reads = reads; syncs = syncs }) old.beside.pieces new.beside.pieces new.reads new.syncs)
+    OfBook count old (λ total book. CostsLines input
+    (record { live = begun_live total book; reads = reads; syncs = syncs }) old.beside.pieces new.beside.pieces new.reads new.syncs)
 
 -- an opening reads 200 blocks at most and syncs as often as it may, and then they cost
 pub record CostsHosting (old new : View) (input : List ℕ) : Type 0 where

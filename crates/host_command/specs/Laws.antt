@@ -14,7 +14,8 @@ use Rattle.live_service.specs.Showing.{IsFirst}
 use Rattle.live_service.specs.LiveReplies.{LiveState}
 use Rattle.host_command.specs.Drawn.{PicturesLines, PicturesOwn}
 
--- The drawings of all frames of a run are the pictures of the book: of each line's frame as it is at that line, of each push as it is behind the group.
+-- The drawings of all frames of a run are the pictures of the book: of each line's frame as it is at that line, of each push as it
+-- is behind the group.
 abbrev pub HostsDrawTheBook : Type 0
 HostsDrawTheBook =
     (input : List ℕ) (frames : List Frame) (drawings : List (Option Canvas)) (old new : LiveState) (now : List Holding)

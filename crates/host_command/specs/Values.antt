@@ -33,7 +33,8 @@ AsksOn false later IsAnswered = later ≡ []
 abbrev pub AnswerValues : List ℕ → State → ℤ → ℤ → List ValuesFrame → Type 0
 AnswerValues name state t0 t1 [] = ⊥
 AnswerValues name state t0 t1 (frame ∷ later) =
-    Reported (Values name t0 t1) (Report (report.Values frame)) state × AsksOn frame.more later (AnswerValues name state frame.next t1 later)
+    Reported (Values name t0 t1) (Report (report.Values frame)) state
+    × AsksOn frame.more later (AnswerValues name state frame.next t1 later)
 
 -- Of all these frames come the lines of the export of the window, value by value.
 abbrev pub ValuesAreTheExport : Type 0

@@ -31,9 +31,11 @@ use store_commands::opening_end;
 pub fn host<W: World>(alloc: Global, world: W) -> (End, W)
     ensures ends { HostEnds (W.view world) (W.view result.1) (traffic W.left W.sent W.read_faults W.send_faults world result.1) result.0 }
     // whatever the disk holds, at the end each line of the input was answered, and all other frames are pushes
-    ensures answers { result.0 ≡ End.Done → IfSome (W.left world) (λ input. SendsAnswers MayAnswerHost followed_behind input (W.sent world) (W.sent result.1)) }
+    ensures answers { result.0 ≡ End.Done → IfSome (W.left world)
+        (λ input. SendsAnswers MayAnswerHost followed_behind input (W.sent world) (W.sent result.1)) }
     // and a page of an open store that is called damaged is so for the line behind the answered ones, or for a push
-    ensures blames { BlamesOnDisk MayAnswerHost followed_behind BlamesHost (page_count (W.view world).size) (W.view result.1) (W.left world) (W.sent world) (W.sent result.1) result.0 }
+    ensures blames { BlamesOnDisk MayAnswerHost followed_behind BlamesHost (page_count (W.view world).size) (W.view result.1) (W.left world)
+        (W.sent world) (W.sent result.1) result.0 }
     // blocks are read, and the disk is synced, by the opening, the lines, the groups and the pushes alone
     ensures costs { IfSome (W.left world) (λ input. CostsHosting (W.view world) (W.view result.1) input) }
     // a call failed exactly where the end tells of one
@@ -49,11 +51,18 @@ pub fn host<W: World>(alloc: Global, world: W) -> (End, W)
 /// The same over a store that is open: how that ended, and the disk.
 fn serve_store<W: World>(alloc: Global, store: Store<GatePages<W>>) -> (End, W)
     requires { AreSound (stored.pages store) }
-    ensures serves { let at = stored.pages store in Served (count at) (W.view (disk at)) (W.view result.1) (traffic W.left W.sent W.read_faults W.send_faults (disk at) result.1) result.0 }
-    ensures answers { result.0 ≡ End.Done → IfSome (W.left (disk (stored.pages store))) (λ input. SendsAnswers MayAnswerHost followed_behind input (W.sent (disk (stored.pages store))) (W.sent result.1)) }
-    ensures blames { let at = stored.pages store in BlamesOnDisk MayAnswerHost followed_behind BlamesHost (count at) (W.view result.1) (W.left (disk at)) (W.sent (disk at)) (W.sent result.1) result.0 }
+    ensures serves { let at = stored.pages store in
+        Served (count at) (W.view (disk at)) (W.view result.1)
+        (traffic W.left W.sent W.read_faults W.send_faults (disk at) result.1) result.0 }
+    ensures answers { result.0 ≡ End.Done → IfSome (W.left (disk (stored.pages store)))
+        (λ input. SendsAnswers MayAnswerHost followed_behind input (W.sent (disk (stored.pages store))) (W.sent result.1)) }
+    ensures blames { let at = stored.pages store in
+        BlamesOnDisk MayAnswerHost followed_behind BlamesHost (count at) (W.view result.1) (W.left (disk at)) (W.sent (disk at))
+        (W.sent result.1) result.0 }
     ensures faults { CountsFault (end_fault result.0) (W.view (disk (stored.pages store))) (W.view result.1) }
-    ensures costs { let pages = stored.pages store in IfSome (W.left (disk pages)) (λ input. CostsFrom (count pages) (W.view (disk pages)) (W.view result.1) input (W.view (disk pages)).reads (W.view (disk pages)).syncs) }
+    ensures costs { let pages = stored.pages store in
+        IfSome (W.left (disk pages)) (λ input. CostsFrom (count pages) (W.view (disk pages)) (W.view result.1) input
+        (W.view (disk pages)).reads (W.view (disk pages)).syncs) }
 {
     match Service::new(alloc, store) {
         Ok(service) => serve_service(alloc, service),
@@ -65,11 +74,18 @@ fn serve_store<W: World>(alloc: Global, store: Store<GatePages<W>>) -> (End, W)
 fn serve_service<W: World>(alloc: Global, service: Service<GatePages<W>>) -> (End, W)
     requires sound { AreSound (shown.pages service) }
     requires alone { shown.sessions service ≡ [] }
-    ensures serves { let at = shown.pages service in Served (count at) (W.view (disk at)) (W.view result.1) (traffic W.left W.sent W.read_faults W.send_faults (disk at) result.1) result.0 }
-    ensures answers { result.0 ≡ End.Done → IfSome (W.left (disk (shown.pages service))) (λ input. SendsAnswers MayAnswerHost followed_behind input (W.sent (disk (shown.pages service))) (W.sent result.1)) }
-    ensures blames { let at = shown.pages service in BlamesOnDisk MayAnswerHost followed_behind BlamesHost (count at) (W.view result.1) (W.left (disk at)) (W.sent (disk at)) (W.sent result.1) result.0 }
+    ensures serves { let at = shown.pages service in
+        Served (count at) (W.view (disk at)) (W.view result.1)
+        (traffic W.left W.sent W.read_faults W.send_faults (disk at) result.1) result.0 }
+    ensures answers { result.0 ≡ End.Done → IfSome (W.left (disk (shown.pages service)))
+        (λ input. SendsAnswers MayAnswerHost followed_behind input (W.sent (disk (shown.pages service))) (W.sent result.1)) }
+    ensures blames { let at = shown.pages service in
+        BlamesOnDisk MayAnswerHost followed_behind BlamesHost (count at) (W.view result.1) (W.left (disk at)) (W.sent (disk at))
+        (W.sent result.1) result.0 }
     ensures faults { CountsFault (end_fault result.0) (W.view (disk (shown.pages service))) (W.view result.1) }
-    ensures costs { let pages = shown.pages service in IfSome (W.left (disk pages)) (λ input. CostsFrom (count pages) (W.view (disk pages)) (W.view result.1) input (W.view (disk pages)).reads (W.view (disk pages)).syncs) }
+    ensures costs { let pages = shown.pages service in
+        IfSome (W.left (disk pages)) (λ input. CostsFrom (count pages) (W.view (disk pages)) (W.view result.1) input
+        (W.view (disk pages)).reads (W.view (disk pages)).syncs) }
 {
     service.is_sound();
     let mut live = Live::new(alloc, ServiceStepper::new(service));

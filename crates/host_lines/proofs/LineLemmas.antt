@@ -1,5 +1,6 @@
 -- The tokens of a line from an offset on, and the first fault in them.
-use Rattle.std.proofs.Common.{◌≡◌, ℕ, ◌+◌, ◌<◌, ◌≤◌, true, false, ltb, List, ◌∷◌, [], length, drop, Option, Some, None, refl, sym, ap, ◌∙◌, zero-add, arith, inl, inr}
+use Rattle.std.proofs.Common.{◌≡◌, ℕ, ◌+◌, ◌<◌, ◌≤◌, true, false, ltb, List, ◌∷◌, [], length, drop, Option, Some, None, refl, sym, ap, ◌∙◌}
+use Rattle.std.proofs.Common.{zero-add, arith, inl, inr}
 use Rattle.std.specs.List.{before_first}
 use Rattle.std.proofs.lemmas.Bool.{cases_lt}
 use Rattle.std.proofs.lemmas.Bool.Decides.{nat_tests}
@@ -25,17 +26,21 @@ left_there line at there = tokens_left-within line at there
 
 -- ---- the places of a line
 
-pub fault_missing : (line : List ℕ) (place : HostPlace) (places : List HostPlace) (at : ℕ) → length line < at → Some (length line) ≡ places_fault (length line) (place ∷ places) (left line at) at
+pub fault_missing : (line : List ℕ) (place : HostPlace) (places : List HostPlace) (at : ℕ) → length line < at
+    → Some (length line) ≡ places_fault (length line) (place ∷ places) (left line at) at
 unfolding places_fault
 fault_missing line place places at past = rw (tokens_left-none (cursor line at) past) refl
 
-pub fault_wrong : (line : List ℕ) (place : HostPlace) (places : List HostPlace) (at : ℕ) (token : List ℕ) → at ≤ length line → token ≡ before_first is_space (drop at line) → fits place token ≡ false
+pub fault_wrong : (line : List ℕ) (place : HostPlace) (places : List HostPlace) (at : ℕ) (token : List ℕ) → at ≤ length line
+    → token ≡ before_first is_space (drop at line) → fits place token ≡ false
     → Some at ≡ places_fault (length line) (place ∷ places) (left line at) at
 unfolding places_fault
 fault_wrong line place places at token there is wrong = rw (split_off line at token there is, wrong) refl
 
-pub fault_right : (line : List ℕ) (place : HostPlace) (places : List HostPlace) (at : ℕ) (token : List ℕ) → at ≤ length line → token ≡ before_first is_space (drop at line) → fits place token ≡ true
-    → places_fault (length line) (place ∷ places) (left line at) at ≡ places_fault (length line) places (left line (at + length token + 1)) (at + length token + 1)
+pub fault_right : (line : List ℕ) (place : HostPlace) (places : List HostPlace) (at : ℕ) (token : List ℕ) → at ≤ length line
+    → token ≡ before_first is_space (drop at line) → fits place token ≡ true
+    → places_fault (length line) (place ∷ places) (left line at) at ≡ places_fault (length line) places (left line (at + length token + 1))
+    (at + length token + 1)
 unfolding places_fault
 fault_right line place places at token there is right = rw (split_off line at token there is, right) refl
 
@@ -51,7 +56,8 @@ some_none : (n : ℕ) → ◌≡◌ {A = Option ℕ} None (Some n) → ⊥
 some_none n never = cc
 
 -- where a place has no fault its token is there
-pub fault_there : (line : List ℕ) (place : HostPlace) (places : List HostPlace) (at : ℕ) → None ≡ places_fault (length line) (place ∷ places) (left line at) at → at ≤ length line
+pub fault_there : (line : List ℕ) (place : HostPlace) (places : List HostPlace) (at : ℕ)
+    → None ≡ places_fault (length line) (place ∷ places) (left line at) at → at ≤ length line
 fault_there line place places at none = elim (cases_lt (length line) at) [
   | inl past ↦ absurd (some_none (length line) (none ∙ sym (fault_missing line place places at past)))
   | inr there ↦ there
@@ -94,12 +100,14 @@ line_asks line word short is =
     line_short line short ∙ ap (tokens_ask (length line)) (sym (tokens_left-within line 0 there) ∙ first)
 
 -- places that go on
-pub places_go : (places rest others : List HostPlace) (place : HostPlace) (line : List ℕ) (start at : ℕ) → rest ≡ place ∷ others → places_fault (length line) places (left line start) start ≡ places_fault (length line) rest (left line at) at
+pub places_go : (places rest others : List HostPlace) (place : HostPlace) (line : List ℕ) (start at : ℕ) → rest ≡ place ∷ others
+    → places_fault (length line) places (left line start) start ≡ places_fault (length line) rest (left line at) at
     → places_fault (length line) places (left line start) start ≡ places_fault (length line) (place ∷ others) (left line at) at
 places_go places rest others place line start at is same = same ∙ ap (λ ps. places_fault (length line) ps (left line at) at) is
 
 -- no place is left
-pub places_end : (places rest : List HostPlace) (line : List ℕ) (start at : ℕ) → length rest ≡ 0 → places_fault (length line) places (left line start) start ≡ places_fault (length line) rest (left line at) at
+pub places_end : (places rest : List HostPlace) (line : List ℕ) (start at : ℕ) → length rest ≡ 0
+    → places_fault (length line) places (left line start) start ≡ places_fault (length line) rest (left line at) at
     → places_fault (length line) places (left line start) start ≡ places_fault (length line) [] (left line at) at
 places_end places [] line start at none same = same
 places_end places (place ∷ others) line start at none same = absurd (omega (arith, none))

@@ -18,19 +18,25 @@ use Rattle.host_lines.proofs.PlaceLemmas.{fits_integer, fits_name, integer_read,
 -- ---- values
 
 -- the three words are a name and two numbers
-pub values_parts : (words : List (List ℕ)) (name t0 t1 : List ℕ) → words ≡ name ∷ t0 ∷ t1 ∷ [] → Allow values_places words → IsTrue (is_name name) × (is_integer t0 ≡ true) × (is_integer t1 ≡ true)
+pub values_parts : (words : List (List ℕ)) (name t0 t1 : List ℕ) → words ≡ name ∷ t0 ∷ t1 ∷ [] → Allow values_places words
+    → IsTrue (is_name name) × (is_integer t0 ≡ true) × (is_integer t1 ≡ true)
 values_parts words name t0 t1 is allow =
     let A : List (List ℕ) → Type 0 = Allow values_places in
-    let fit : Allow values_places (name ∷ t0 ∷ t1 ∷ []) = subst A is allow in
-    (fits_name name fit.0, spelt_integer t0 (integer_value t0) (fits_integer t0 fit.1.0), spelt_integer t1 (integer_value t1) (fits_integer t1 fit.1.1.0))
+    let fit : Allow values_places (name ∷ t0 ∷ t1 ∷ []) = subst A is allow in (
+      fits_name name fit.0,
+      spelt_integer t0 (integer_value t0) (fits_integer t0 fit.1.0),
+      spelt_integer t1 (integer_value t1) (fits_integer t1 fit.1.1.0),
+    )
 
-pub values_are : (words : List (List ℕ)) (name t0 t1 : List ℕ) (y z : ℤ) → words ≡ name ∷ t0 ∷ t1 ∷ [] → y ≡ integer_value t0 → z ≡ integer_value t1 → Values name y z ≡ values_named words
+pub values_are : (words : List (List ℕ)) (name t0 t1 : List ℕ) (y z : ℤ) → words ≡ name ∷ t0 ∷ t1 ∷ [] → y ≡ integer_value t0
+    → z ≡ integer_value t1 → Values name y z ≡ values_named words
 unfolding values_named
 values_are words name t0 t1 y z is first second = (λ i. Values name (first i) (second i)) ∙ sym (ap values_named is)
 
 -- ---- sums
 
-pub sum_is : (session : List ℕ) (request : Request) (words : List (List ℕ)) → SpellsRequest request words → sum_named (session ∷ words) ≡ Sum (natural_value session) request
+pub sum_is : (session : List ℕ) (request : Request) (words : List (List ℕ)) → SpellsRequest request words
+    → sum_named (session ∷ words) ≡ Sum (natural_value session) request
 unfolding sum_named
 sum_is session request words s =
     let a : integer_value s.a ≡ request.a = integer_read s.a request.a s.a_is in
@@ -41,7 +47,17 @@ sum_is session request words s =
     let t1 : integer_value s.t1 ≡ request.t1 = integer_read s.t1 request.t1 s.t1_is in
     let range : range_of s.range ≡ request.range = (range_fit request.range s.range s.range_is).1 in
     let same : request_named request.first request.second s.a s.b s.w s.h s.t0 s.t1 s.range ≡ request =
-    (λ i. record { first = request.first; second = request.second; a = a i; b = b i; w = w i; h = h i; t0 = t0 i; t1 = t1 i; range = range i }) in
+    (λ i. record {
+      first = request.first;
+      second = request.second;
+      a = a i;
+      b = b i;
+      w = w i;
+      h = h i;
+      t0 = t0 i;
+      t1 = t1 i;
+      range = range i;
+    }) in
     ap (λ (ts : List (List ℕ)). sum_named (session ∷ ts)) s.words_are ∙ ap (Sum (natural_value session)) same
 
 -- ---- rules

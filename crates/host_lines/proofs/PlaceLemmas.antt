@@ -1,5 +1,6 @@
 -- What tokens spell that their places allow, and tokens that places allow.
-use Rattle.std.proofs.Common.{◌≡◌, ℕ, ℤ, ◌+◌, ◌^◌, true, false, cond, ◌&&◌, List, [], ◌∷◌, length, Option, Some, None, refl, sym, subst, arith}
+use Rattle.std.proofs.Common.{◌≡◌, ℕ, ℤ, ◌+◌, ◌^◌, true, false, cond, ◌&&◌, List, [], ◌∷◌, length, Option, Some, None, refl, sym, subst}
+use Rattle.std.proofs.Common.{arith}
 use Rattle.std.specs.Prelude.{IsTrue, nat_le, unsigned_abs}
 use Rattle.std.specs.Fmt.{decimal}
 use Rattle.std.proofs.lemmas.Bool.{and_parts, and_from}
@@ -22,7 +23,8 @@ use Rattle.host_lines.specs.Grammar.{Allow, fits, places_fault}
 
 -- ---- all places of a line
 
-pub fault_allow : (end : ℕ) (places : List HostPlace) (words : List (List ℕ)) (at : ℕ) → places_fault end places words at ≡ None → Allow places words
+pub fault_allow : (end : ℕ) (places : List HostPlace) (words : List (List ℕ)) (at : ℕ) → places_fault end places words at ≡ None
+    → Allow places words
 unfolding places_fault
 fault_allow end [] [] at none = tt
 fault_allow end [] (word ∷ words) at none = absurd (cc)
@@ -36,7 +38,8 @@ fault_allow end (place ∷ places) (word ∷ words) at none =
     ] none in
     (parts.0, fault_allow end places words (at + length word + 1) parts.1)
 
-pub allow_fault : (end : ℕ) (places : List HostPlace) (words : List (List ℕ)) (at : ℕ) → Allow places words → places_fault end places words at ≡ None
+pub allow_fault : (end : ℕ) (places : List HostPlace) (words : List (List ℕ)) (at : ℕ) → Allow places words
+    → places_fault end places words at ≡ None
 unfolding places_fault
 allow_fault end [] [] at allow = refl
 allow_fault end [] (word ∷ words) at allow = absurd allow
@@ -57,7 +60,8 @@ pub fits_natural : (token : List ℕ) → fits (Of Natural) token ≡ true → S
 unfolding fits allows
 fits_natural token h = natural_spelt token h
 
-pub fits_session : (token : List ℕ) → fits (Of Session) token ≡ true → SpellsNatural token (natural_value token) × IsSession (natural_value token)
+pub fits_session : (token : List ℕ) → fits (Of Session) token ≡ true
+    → SpellsNatural token (natural_value token) × IsSession (natural_value token)
 unfolding fits allows
 fits_session token h =
     let k = and_parts (is_natural token && nat_le 1 (natural_value token)) (nat_le (natural_value token) 4294967295) h in
@@ -104,7 +108,8 @@ unfolding fits
 factor_fits token z spells small =
     let P : ℤ → Type 0 = λ y. nat_le (unsigned_abs y) (10 ^ 9) ≡ true in
     let test : nat_le (unsigned_abs z) (10 ^ 9) ≡ true = grind (arith, nat_tests, small) in
-    and_from (is_integer token) (nat_le (unsigned_abs (integer_value token)) (10 ^ 9)) (spelt_integer token z spells) (subst P (sym (integer_read token z spells)) test)
+    and_from (is_integer token) (nat_le (unsigned_abs (integer_value token)) (10 ^ 9)) (spelt_integer token z spells)
+    (subst P (sym (integer_read token z spells)) test)
 
 session_spelt : (n : ℕ) → IsSession n → SpellsNatural (decimal n) n
 session_spelt n session = (refl, omega (arith, session.1))
@@ -121,5 +126,6 @@ session_fits n session =
     let to : nat_le n 4294967295 ≡ true = grind (arith, nat_tests, session.1) in
     let back : n ≡ natural_value (decimal n) = sym (session_read n session) in
     and_from (is_natural (decimal n) && nat_le 1 (natural_value (decimal n))) (nat_le (natural_value (decimal n)) 4294967295)
-    (and_from (is_natural (decimal n)) (nat_le 1 (natural_value (decimal n))) (spelt_natural (decimal n) n (session_spelt n session)) (subst P back from))
+    (and_from (is_natural (decimal n)) (nat_le 1 (natural_value (decimal n))) (spelt_natural (decimal n) n (session_spelt n session))
+    (subst P back from))
     (subst Q back to)

@@ -1,5 +1,6 @@
 -- What the lines ask that only `host` answers.
-use Rattle.std.specs.Prelude.{◌≡◌, ℕ, ◌+◌, ◌^◌, ◌≤◌, Bool, true, ◌&&◌, nat_le, nat_lt, if◌then◌else◌, List, [], ◌∷◌, length, Option, None, Some, IsTrue, unsigned_abs, codes, ⊤}
+use Rattle.std.specs.Prelude.{◌≡◌, ℕ, ◌+◌, ◌^◌, ◌≤◌, Bool, true, ◌&&◌, nat_le, nat_lt, if◌then◌else◌, List, [], ◌∷◌, length, Option, None}
+use Rattle.std.specs.Prelude.{Some, IsTrue, unsigned_abs, codes, ⊤}
 use Rattle.std.specs.Str.{bytes_eq}
 use Rattle.whole_number.specs.Numbers.{is_integer, integer_value, natural_value}
 use Rattle.series_book.specs.Names.{is_name}

@@ -1,6 +1,7 @@
 //! What a line asks.
 ghost use Rattle.std.specs.Prelude.{◌≡◌, ◌+◌, ◌≤◌, [], length, IfOk};
-ghost use Rattle.host_lines.specs.Grammar.{IsInRange, host_line, left, places_fault, rule_fault, rule_named, sum_named, sum_places, unless, values_named, values_places};
+ghost use Rattle.host_lines.specs.Grammar.{IsInRange, host_line, left, places_fault, rule_fault, rule_named, sum_named, sum_places, unless};
+ghost use Rattle.host_lines.specs.Grammar.{values_named, values_places};
 ghost use Rattle.host_lines.specs.declared.asked.HostLine.TheVariants.{List as ListLine};
 
 use crate::asked::HostLine;
@@ -56,7 +57,8 @@ fn list(line: &[u8], at: usize) -> HostLine
 fn values(alloc: Global, line: &[u8], at: usize) -> Result<HostLine, AllocError>
     requires short { length line.now ≤ 8192 }
     requires within { at ≤ length line.now + 1 }
-    ensures asked { IfOk result (λ asked. asked ≡ unless (places_fault (length line.now) values_places (left line.now at) at) (values_named (left line.now at))) }
+    ensures asked { IfOk result (λ asked. asked ≡ unless (places_fault (length line.now) values_places (left line.now at) at)
+        (values_named (left line.now at))) }
     ensures in_range { IfOk result IsInRange }
 {
     let places = [
@@ -74,7 +76,8 @@ fn values(alloc: Global, line: &[u8], at: usize) -> Result<HostLine, AllocError>
 fn sum(alloc: Global, line: &[u8], at: usize) -> Result<HostLine, AllocError>
     requires short { length line.now ≤ 8192 }
     requires within { at ≤ length line.now + 1 }
-    ensures asked { IfOk result (λ asked. asked ≡ unless (places_fault (length line.now) sum_places (left line.now at) at) (sum_named (left line.now at))) }
+    ensures asked { IfOk result (λ asked. asked ≡ unless (places_fault (length line.now) sum_places (left line.now at) at)
+        (sum_named (left line.now at))) }
     ensures in_range { IfOk result IsInRange }
 {
     let places = [
@@ -99,7 +102,8 @@ fn sum(alloc: Global, line: &[u8], at: usize) -> Result<HostLine, AllocError>
 fn sweep(alloc: Global, line: &[u8], at: usize) -> Result<HostLine, AllocError>
     requires short { length line.now ≤ 8192 }
     requires within { at ≤ length line.now + 1 }
-    ensures asked { IfOk result (λ asked. asked ≡ unless (rule_fault (length line.now) (left line.now at) at) (rule_named (left line.now at))) }
+    ensures asked { IfOk result (λ asked. asked ≡ unless (rule_fault (length line.now) (left line.now at) at)
+        (rule_named (left line.now at))) }
     ensures in_range { IfOk result IsInRange }
 {
     match rule_fault(line, at) {

@@ -7,7 +7,8 @@ use Rattle.series_catalog.specs.declared.catalog.Catalog.{Catalog}
 use Rattle.series_store.specs.Counting as counting
 
 -- a look at pages is one at a store whose catalog stays
-pub looks_at : (told told' : Type 0) (old new under under' : View) (s s' : Superblock) (catalog catalog' : Catalog) → counting.Looks told told' old new under under' s s' → catalog' ≡ catalog → Looks told told' old new under under' s s' catalog catalog'
+pub looks_at : (told told' : Type 0) (old new under under' : View) (s s' : Superblock) (catalog catalog' : Catalog)
+    → counting.Looks told told' old new under under' s s' → catalog' ≡ catalog → Looks told told' old new under under' s s' catalog catalog'
 looks_at told told' old new under under' s s' catalog catalog' looks same = record {
   time = looks.kept.time;
   goes_on = looks.over.goes_on;

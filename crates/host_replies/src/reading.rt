@@ -71,7 +71,8 @@ fn values_reply<P: Pages>(
     ensures may { IfOk result MayTellValues }
     ensures looks { LooksOnly store.old store.new }
     ensures reads { (stored.view store.new).reads ≤ (stored.view store.old).reads + 36 }
-    ensures cause { IfErr result (λ e. IsReportCause (Values name.now t0 t1) e (stored.IsTold store.new) (stored.view store.old) (stored.view store.new)) }
+    ensures cause { IfErr result (λ e. IsReportCause (Values name.now t0 t1) e (stored.IsTold store.new) (stored.view store.old)
+        (stored.view store.new)) }
     ensures faults { CountsFault (fault_in step_fault result) (stored.view store.old) (stored.view store.new) }
 {
     let Some(info) = store.series(name) else {

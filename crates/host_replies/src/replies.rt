@@ -42,7 +42,8 @@ pub fn answer_report<P: Pages>(
     requires sound { (shown.view service.old).fit }
     requires report { AsksReport asked.now }
     requires range { IsInRange asked.now }
-    ensures reply { shown.ForBook service.old (λ total book. IfOk result (λ frame. Reported asked.now frame (shown.state service.old total book))) }
+    ensures reply { shown.ForBook service.old (λ total book. IfOk result
+        (λ frame. Reported asked.now frame (shown.state service.old total book))) }
     ensures standing { shown.ForBook service.old (λ total book. IfErr result IsOutside) }
     // whatever the pages are
     ensures fits { IfOk result Fits }
@@ -51,8 +52,10 @@ pub fn answer_report<P: Pages>(
     ensures sessions { shown.sessions service.new ≡ shown.sessions service.old }
     ensures looks { LooksOnly service.old service.new }
     ensures reads { ReadsReport asked.now (shown.view service.old).reads (shown.view service.new).reads }
-    ensures reads_over { shown.ForBook service.old (λ total book. ReadsReportOver book asked.now (shown.view service.old).reads (shown.view service.new).reads) }
-    ensures cause { IfErr result (λ e. IsReportCause asked.now e (shown.IsTold service.new) (shown.view service.old) (shown.view service.new)) }
+    ensures reads_over { shown.ForBook service.old (λ total book. ReadsReportOver book asked.now (shown.view service.old).reads
+        (shown.view service.new).reads) }
+    ensures cause { IfErr result (λ e. IsReportCause asked.now e (shown.IsTold service.new) (shown.view service.old)
+        (shown.view service.new)) }
     ensures faults { CountsFault (fault_in step_fault result) (shown.view service.old) (shown.view service.new) }
 {
     if !has_session(&*service, asked) {

@@ -1,5 +1,6 @@
 -- The frame of a piece, and its rules.
-use Rattle.std.proofs.Common.{◌≡◌, ℕ, ℤ, suc, pos, ◌+ℤ◌, ◌≤ℤ◌, ◌+◌, ◌-◌, ◌*◌, ◌<◌, ◌≤◌, Bool, false, ltb, List, [], ◌∷◌, map, length, All, Option, None, Some, refl, sym, ap, subst, arith, ◌∙◌}
+use Rattle.std.proofs.Common.{◌≡◌, ℕ, ℤ, suc, pos, ◌+ℤ◌, ◌≤ℤ◌, ◌+◌, ◌-◌, ◌*◌, ◌<◌, ◌≤◌, Bool, false, ltb, List, [], ◌∷◌, map, length, All}
+use Rattle.std.proofs.Common.{Option, None, Some, refl, sym, ap, subst, arith, ◌∙◌}
 use Rattle.std.specs.Prelude.{if◌then◌else◌}
 use Rattle.std.proofs.lemmas.Int.{ints}
 use Rattle.std.proofs.lemmas.List.Elements.{All-cons}
@@ -22,11 +23,17 @@ far_time start n near early = grind (arith, ints, near, early)
 
 in_order : (end from : ℕ) (runs : List SlotRun) → AreApart end from runs → AreInOrder runs
 in_order end from [] apart = λ k d low. absurd (omega (arith, low))
-in_order end from (run ∷ runs) (first, some, within, more) = All-cons (λ (r : SlotRun). r.first ≤ r.end) run runs (omega (arith, some)) (in_order end (suc run.end) runs more)
+in_order end from (run ∷ runs) (
+  first,
+  some,
+  within,
+  more,
+) = All-cons (λ (r : SlotRun). r.first ≤ r.end) run runs (omega (arith, some)) (in_order end (suc run.end) runs more)
 
 pub some_in_order : (from count : ℕ) (w : WindowValues) → AreOfSome from count w → AreInOrder w.runs.items
 some_in_order from count w are =
-    subst AreInOrder (sym are.are.runs) (in_order (from + length are.slots) from (runs_from from are.slots) (runs_apart from are.slots (from + length are.slots) (omega arith)))
+    subst AreInOrder (sym are.are.runs) (in_order (from + length are.slots) from (runs_from from are.slots)
+    (runs_apart from are.slots (from + length are.slots) (omega arith)))
 
 stored_few : (slots : List (Option ℤ)) → length (stored slots) ≤ length slots
 unfolding stored
@@ -37,8 +44,10 @@ stored_few (Some v ∷ slots) = omega (arith, stored_few slots)
 piece_few : (from end : ℕ) → IsPiece from end → end - from ≤ 4096
 piece_few from end piece = omega (arith, piece)
 
-pub values_fit : (id from end : ℕ) (more : Bool) (next : ℤ) (runs : List Run) (values : List ℤ) (w : WindowValues) → id < 512 → IsTime next → (more ≡ false → next ≡ pos 0) → IsPiece from end → from ≤ MOST_SLOTS → end ≤ MOST_SLOTS
-    → AreOfSome from (end - from) w → runs ≡ map run_in w.runs.items → values ≡ w.stored.items → FitsValues (record { series = id; more = more; next = next; runs = runs; values = values })
+pub values_fit : (id from end : ℕ) (more : Bool) (next : ℤ) (runs : List Run) (values : List ℤ) (w : WindowValues) → id < 512 → IsTime next
+    → (more ≡ false → next ≡ pos 0) → IsPiece from end → from ≤ MOST_SLOTS → end ≤ MOST_SLOTS
+    → AreOfSome from (end - from) w → runs ≡ map run_in w.runs.items → values ≡ w.stored.items
+    → FitsValues (record { series = id; more = more; next = next; runs = runs; values = values })
 values_fit id from end more next runs values w low time none piece begin within are runs_are values_are =
     let slots = are.slots in
     let is : values ≡ stored slots = values_are ∙ are.are.values_are in
@@ -52,12 +61,16 @@ values_fit id from end more next runs values w low time none piece begin within 
       none_left = none;
       most = omega (arith, count, stored_few slots, few);
       runs = subst R (sym (runs_are ∙ ap (λ l. map run_in l) are.are.runs))
-          (runs_fit from last 0 from MOST_SLOTS (length values) (runs_from from slots) (omega arith) (omega arith) (runs_apart from slots last (omega arith)) (omega (arith, are.long, begin, within)) (omega (arith, few)) (runs_count from slots ∙ sym count));
+          (runs_fit from last 0 from MOST_SLOTS (length values) (runs_from from slots) (omega arith) (omega arith)
+          (runs_apart from slots last (omega arith)) (omega (arith, are.long, begin, within)) (omega (arith, few))
+          (runs_count from slots ∙ sym count));
       values = subst (All IsValue) (sym values_are) are.in_range;
     }
 
 pub values_same : (id : ℕ) (series : Series) (t0 t1 : ℤ) (from to end : ℕ) (next : ℤ) (runs : List Run) (values : List ℤ) (w : WindowValues)
-    → from ≡ slots_before series t0 → to ≡ slots_before series t1 → end ≡ piece_end from to → next ≡ time_left series.start series.step end to → runs ≡ map run_in w.runs.items → values ≡ w.stored.items → AreOf from (window series.slots from end) w
+    → from ≡ slots_before series t0 → to ≡ slots_before series t1 → end ≡ piece_end from to
+    → next ≡ time_left series.start series.step end to → runs ≡ map run_in w.runs.items → values ≡ w.stored.items
+    → AreOf from (window series.slots from end) w
     → record { series = id; more = ltb end to; next = next; runs = runs; values = values } ≡ values_of id series t0 t1
 values_same id series t0 t1 from to end next runs values w from_is to_is end_is next_is runs_are values_are are =
     here

@@ -54,7 +54,8 @@ fn listed_series(name: &Name, info: &SeriesInfo) -> Result<ListedSeries, AllocEr
     requires last { EndsInTime info.now.start info.now.step info.now.slots }
     requires proper { IsProperIfAny info.now.span }
     requires none { info.now.slots ≡ 0 → info.now.span ≡ None }
-    ensures listed { (series : Series) (id : ℕ) → name.now ≡ series.name → IsInfo series id info.now → IfOk result (λ one. one ≡ listed series) }
+    ensures listed { (series : Series) (id : ℕ) → name.now ≡ series.name → IsInfo series id info.now
+        → IfOk result (λ one. one ≡ listed series) }
     ensures fits { IfOk result FitsListed }
 {
     let stored = stored_of(info.span);

@@ -47,7 +47,8 @@ pub fn values_frame<P: Pages>(
     // whatever the pages are
     ensures fits { IfOk result FitsValues }
     ensures reads { (shown.view store.new).reads ≤ (shown.view store.old).reads + 36 }
-    ensures cause { IfErr result (λ e. IsWindowCause e (shown.IsTold store.old) (shown.numbers store.old) id (shown.view store.old) (shown.view store.new)) }
+    ensures cause { IfErr result (λ e. IsWindowCause e (shown.IsTold store.old) (shown.numbers store.old) id (shown.view store.old)
+        (shown.view store.new)) }
     ensures quiet { OnOk result ((shown.view store.new).faults ≡ (shown.view store.old).faults) }
     ensures quiet_err { IfErr result (λ e. e ≢ StoreError.DiskFault → (shown.view store.new).faults ≡ (shown.view store.old).faults) }
     ensures looks { shown.OnlyLooks store.old store.new }

@@ -37,15 +37,24 @@ IsAside (Rows rows) = ⊥
 IsAside (LiveOf n on) = ⊥
 IsAside (Report report) = ⊤
 
-aside_draws : (frame : Frame) (old new : State) (holdings : List Holding) → IsAside frame → new.sessions ≡ old.sessions → Mirrors old.sessions holdings → DrawsTheBook frame old new holdings
+aside_draws : (frame : Frame) (old new : State) (holdings : List Holding) → IsAside frame → new.sessions ≡ old.sessions
+    → Mirrors old.sessions holdings → DrawsTheBook frame old new holdings
 aside_draws (Done slots) old new holdings aside same mirrors = absurd aside
-aside_draws (Refused number a b) old new holdings aside same mirrors = λ drawing now accepts. (accepts.1 ∙ mirrors ∙ ap (map mirrored) (sym same), accepts.0)
+aside_draws (Refused number a b) old new holdings aside same mirrors = λ drawing now accepts. (
+  accepts.1 ∙ mirrors
+      ∙ ap (map mirrored) (sym same),
+  accepts.0,
+)
 aside_draws (Opened session cache) old new holdings aside same mirrors = absurd aside
 aside_draws (Closed session) old new holdings aside same mirrors = absurd aside
 aside_draws (ViewOf view) old new holdings aside same mirrors = absurd aside
 aside_draws (Rows rows) old new holdings aside same mirrors = absurd aside
 aside_draws (LiveOf n on) old new holdings aside same mirrors = absurd aside
-aside_draws (Report report) old new holdings aside same mirrors = λ drawing now accepts. (accepts.1 ∙ mirrors ∙ ap (map mirrored) (sym same), accepts.0)
+aside_draws (Report report) old new holdings aside same mirrors = λ drawing now accepts. (
+  accepts.1 ∙ mirrors
+      ∙ ap (map mirrored) (sym same),
+  accepts.0,
+)
 
 refused_view : (number a b : ℕ) (view : ViewFrame) → Refused number a b ≡ ViewOf view → ⊥
 refused_view number a b view is = cc
@@ -77,7 +86,8 @@ aside_accepts (Report report) holdings aside = λ e. elim e as (λ x. Rejects (R
 ]
 
 -- what a step leaves of the sessions, and its frame
-reply_aside : (rule : Rule) (frame : Frame) (old new : LiveState) → SweepReplied rule frame old new → IsAside frame × (new.state.sessions ≡ old.state.sessions)
+reply_aside : (rule : Rule) (frame : Frame) (old new : LiveState) → SweepReplied rule frame old new
+    → IsAside frame × (new.state.sessions ≡ old.state.sessions)
 reply_aside rule frame old new replied =
     let A : Frame → Type 0 = λ f. IsAside f in
     elim replied.0 [
@@ -85,12 +95,14 @@ reply_aside rule frame old new replied =
       | inr does ↦ (subst A (sym does.frame_is) tt, ap (λ (s : State). s.sessions) does.state_is)
     ]
 
-pub sweep_draws : (rule : Rule) (frame : Frame) (old new : LiveState) (holdings : List Holding) → SweepReplied rule frame old new → Mirrors old.state.sessions holdings → DrawsTheBook frame old.state new.state holdings
+pub sweep_draws : (rule : Rule) (frame : Frame) (old new : LiveState) (holdings : List Holding) → SweepReplied rule frame old new
+    → Mirrors old.state.sessions holdings → DrawsTheBook frame old.state new.state holdings
 sweep_draws rule frame old new holdings replied mirrors =
     let aside = reply_aside rule frame old new replied in
     aside_draws frame old.state new.state holdings aside.0 aside.1 mirrors
 
-pub sweep_accepted : (rule : Rule) (frame : Frame) (old new : LiveState) (holdings : List Holding) → SweepReplied rule frame old new → OnlyLacksMemory frame holdings
+pub sweep_accepted : (rule : Rule) (frame : Frame) (old new : LiveState) (holdings : List Holding) → SweepReplied rule frame old new
+    → OnlyLacksMemory frame holdings
 sweep_accepted rule frame old new holdings replied = aside_accepts frame holdings (reply_aside rule frame old new replied).0
 
 -- ---- there is one answer
@@ -103,7 +115,11 @@ module _ (rule : Rule) (frame other : Frame) (old new behind : LiveState) where
   Same = (frame ≡ other) × (new ≡ behind)
 
   refusals_one : RefusesStep rule frame old new → RefusesStep rule other old behind → Same
-  refusals_one a b = (a.frame_is ∙ sym b.frame_is, same_live new behind (a.state_same ∙ sym b.state_same) (a.followed_same ∙ sym b.followed_same) (a.idle ∙ sym b.idle))
+  refusals_one a b = (
+    a.frame_is ∙ sym b.frame_is,
+    same_live new behind (a.state_same ∙ sym b.state_same) (a.followed_same
+        ∙ sym b.followed_same) (a.idle ∙ sym b.idle),
+  )
 
   steps_one : DoesStep rule frame old new → DoesStep rule other old behind → Same
   steps_one a b =
@@ -111,7 +127,8 @@ module _ (rule : Rule) (frame other : Frame) (old new behind : LiveState) where
         a.frame_is ∙ sym b.frame_is,
         same_live new behind state (a.followed_same ∙ sym b.followed_same)
             (a.pending_now
-            ∙ ap (λ (s : State). pushed_behind (length (step_clears old.state rule)) (swept_followers rule s.book s.sessions old.followed)) state
+            ∙ ap (λ (s : State). pushed_behind (length (step_clears old.state rule)) (swept_followers rule s.book s.sessions old.followed))
+            state
             ∙ sym b.pending_now),
       )
 
@@ -138,11 +155,13 @@ all_so ss ss' ns ns' sessions numbers all =
 none_can : (ss : List Session) → All (CanFollow ss) []
 none_can ss = λ k d below. absurd (omega (arith, below))
 
-followers_can : (series : Option ℕ) (ss like : List Session) (ns : List ℕ) → All (CanFollow ss) ns → All (CanFollow ss) (followers series like ns)
+followers_can : (series : Option ℕ) (ss like : List Session) (ns : List ℕ) → All (CanFollow ss) ns
+    → All (CanFollow ss) (followers series like ns)
 followers_can None ss like ns all = none_can ss
 followers_can (Some series) ss like ns all = All-filter (λ n. shows series (last_of (session_of n like))) (CanFollow ss) ns all
 
-swept_can : (rule : Rule) (book : List Series) (ss like : List Session) (ns : List ℕ) → All (CanFollow ss) ns → All (CanFollow ss) (swept_followers rule book like ns)
+swept_can : (rule : Rule) (book : List Series) (ss like : List Session) (ns : List ℕ) → All (CanFollow ss) ns
+    → All (CanFollow ss) (swept_followers rule book like ns)
 swept_can (Before name time) book ss like ns all = followers_can (id_of name book) ss like ns all
 swept_can (Last name count) book ss like ns all = followers_can (id_of name book) ss like ns all
 swept_can (Free pages) book ss like ns all = All-filter (λ n. has_view n like) (CanFollow ss) ns all
@@ -164,6 +183,7 @@ sweep_well rule frame old new well replied = elim replied.0 [
       record {
         followed = all_so old.state.sessions new.state.sessions old.followed new.followed sessions does.followed_same well.followed;
         pending = all_so old.state.sessions new.state.sessions _ new.pending sessions does.pending_now
-            (pushed_can (length (step_clears old.state rule)) old.state.sessions _ (swept_can rule new.state.book old.state.sessions new.state.sessions old.followed well.followed));
+            (pushed_can (length (step_clears old.state rule)) old.state.sessions _
+            (swept_can rule new.state.book old.state.sessions new.state.sessions old.followed well.followed));
       }
 ]

@@ -20,12 +20,14 @@ use Rattle.zoom_session.specs.declared.session.Session.{Session}
 
 -- what the relations of the stepper say
 pub record MeansNames {P : Type 0} {g : Ghosts P} (h : StepperGhosts (ServiceStepper P g) ServiceError) : Type 0 where
-  pub names : (it : ServiceStepper P g) (name : List ℕ) (id : Option ℕ) → h.names it name id → shown.ForSoundBook it.service (λ total book. id ≡ id_of name book)
+  pub names : (it : ServiceStepper P g) (name : List ℕ) (id : Option ℕ) → h.names it name id
+      → shown.ForSoundBook it.service (λ total book. id ≡ id_of name book)
   pub sessions : (it : ServiceStepper P g) → h.sessions it ≡ it.service.sessions
 
 -- the rule names the series of this name
 abbrev Follows : Rule → List ℕ → Type 0
-Follows rule name = (book : List Series) (ss : List Session) (ns : List ℕ) → swept_followers rule book ss ns ≡ followers (id_of name book) ss ns
+Follows rule name = (book : List Series) (ss : List Session) (ns : List ℕ)
+    → swept_followers rule book ss ns ≡ followers (id_of name book) ss ns
 
 pub before_follows : (rule : Rule) (name : List ℕ) (time : _) → rule ≡ Before name time → Follows rule name
 before_follows rule name time is = λ book ss ns. ap (λ (r : Rule). swept_followers r book ss ns) is
@@ -43,18 +45,22 @@ pub on_ok_so : {E : Type 0} (r : Result (Unit {0}) E) (A B : Type 0) → (A → 
 on_ok_so (Ok x) A B more so = more so
 on_ok_so (Err e) A B more so = tt
 
-module _ {P : Type 0} {g : Ghosts P} {h : StepperGhosts (ServiceStepper P g) ServiceError} {streams : StreamGhosts (ServiceStepper P g)} where
-  -- behind clears of a series of a name
-  pub behind_named : MeansNames h → (rule : Rule) (name : List ℕ) (clears : ℕ) (old new : Live (ServiceStepper P g) ServiceError h streams) → Follows rule name → 1 ≤ clears → live.PushesTo name old new → PushesBehind rule clears old new
-  behind_named m rule name clears old new names some pushes = record {
-    stepper = pushes.stepper;
-    followed_same = pushes.followed_same;
-    pending_now = λ total book fit told stands.
-        let ss = new.stepper.service.sessions in
-        let ns = old.followed.items in
-        pushes.pending_now
-        ∙ ap (λ (o : Option ℕ). followers o (h.sessions new.stepper) ns) (m.names new.stepper name pushes.series pushes.named total book fit told stands)
-        ∙ ap (λ (l : List Session). followers (id_of name book) l ns) (m.sessions new.stepper)
-        ∙ sym (names book ss ns)
-        ∙ sym (behind_some clears (swept_followers rule book ss ns) some);
-  }
+module _ {P : Type 0} {g : Ghosts P} {h : StepperGhosts (ServiceStepper P g) ServiceError} {streams : StreamGhosts (ServiceStepper P g)}
+  where
+    -- behind clears of a series of a name
+    pub behind_named : MeansNames h → (rule : Rule) (name : List ℕ) (clears : ℕ)
+        (old new : Live (ServiceStepper P g) ServiceError h streams)
+        → Follows rule name → 1 ≤ clears → live.PushesTo name old new → PushesBehind rule clears old new
+    behind_named m rule name clears old new names some pushes = record {
+      stepper = pushes.stepper;
+      followed_same = pushes.followed_same;
+      pending_now = λ total book fit told stands.
+          let ss = new.stepper.service.sessions in
+          let ns = old.followed.items in
+          pushes.pending_now
+          ∙ ap (λ (o : Option ℕ). followers o (h.sessions new.stepper) ns)
+          (m.names new.stepper name pushes.series pushes.named total book fit told stands)
+          ∙ ap (λ (l : List Session). followers (id_of name book) l ns) (m.sessions new.stepper)
+          ∙ sym (names book ss ns)
+          ∙ sym (behind_some clears (swept_followers rule book ss ns) some);
+    }

@@ -28,17 +28,20 @@ SweepsAreDrawn =
 -- Nothing but want of memory keeps it from that.
 abbrev pub SweepsAreAccepted : Type 0
 SweepsAreAccepted =
-    (rule : Rule) (frame : Frame) (old new : LiveState) (holdings : List Holding) → SweepReplied rule frame old new → OnlyLacksMemory frame holdings
+    (rule : Rule) (frame : Frame) (old new : LiveState) (holdings : List Holding) → SweepReplied rule frame old new
+    → OnlyLacksMemory frame holdings
 
 -- Followed sessions can follow behind a step.
 abbrev pub SweepsKeepFollowing : Type 0
-SweepsKeepFollowing = (rule : Rule) (frame : Frame) (old new : LiveState) → FollowsWell old → SweepReplied rule frame old new → FollowsWell new
+SweepsKeepFollowing = (rule : Rule) (frame : Frame) (old new : LiveState) → FollowsWell old → SweepReplied rule frame old new
+    → FollowsWell new
 
 -- Behind a step the rule makes the later clears of the same list.
 abbrev pub StepsGoOn : Type 0
 StepsGoOn =
     (rule : Rule) (frame : Frame) (old new : LiveState)
-    → IsSound old.state → DoesStep rule frame old new → sweeps new.state.total new.state.book rule ≡ drop most_clears (sweeps old.state.total old.state.book rule)
+    → IsSound old.state → DoesStep rule frame old new
+    → sweeps new.state.total new.state.book rule ≡ drop most_clears (sweeps old.state.total old.state.book rule)
 
 -- Two steps make as many first clears of it together.
 abbrev pub StepsComeTogether : Type 0
@@ -51,8 +54,10 @@ StepsComeTogether =
 abbrev pub LastStepsSweep : Type 0
 LastStepsSweep =
     (rule : Rule) (frame : Frame) (old new : LiveState)
-    → length (sweeps old.state.total old.state.book rule) ≤ most_clears → DoesStep rule frame old new → new.state.book ≡ book_swept old.state.total old.state.book rule
+    → length (sweeps old.state.total old.state.book rule) ≤ most_clears → DoesStep rule frame old new
+    → new.state.book ≡ book_swept old.state.total old.state.book rule
 
 -- Some first clears of a step are some first edits of a group of these clears.
 abbrev pub ClearsAreEdits : Type 0
-ClearsAreEdits = (rule : Rule) (old : LiveState) (image : Image) → IsSound old.state → SweepsSome rule old image → DoesSome (step_clears old.state rule) old image
+ClearsAreEdits = (rule : Rule) (old : LiveState) (image : Image) → IsSound old.state → SweepsSome rule old image
+    → DoesSome (step_clears old.state rule) old image

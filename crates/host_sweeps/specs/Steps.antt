@@ -67,10 +67,12 @@ module _ {P : Type 0} {g : Ghosts P} where
     pub sessions : shown.sessions new ≡ shown.sessions old
     pub state : shown.ForSoundBook new (λ total book. IsSound (shown.state new total book))
 
-module _ {P : Type 0} {g : Ghosts P} {h : StepperGhosts (ServiceStepper P g) ServiceError} {streams : StreamGhosts (ServiceStepper P g)} where
-  -- pushes are pending behind so many clears, and all else stays
-  pub record PushesBehind (rule : Rule) (clears : ℕ) (old new : Live (ServiceStepper P g) ServiceError h streams) : Type 0 where
-    pub stepper : live.stepper new ≡ live.stepper old
-    pub followed_same : live.followed new ≡ live.followed old
-    pub pending_now : shown.ForSoundBook (its.service new)
-        (λ total book. live.pending new ≡ pushed_behind clears (swept_followers rule book (shown.sessions (its.service new)) (live.followed old)))
+module _ {P : Type 0} {g : Ghosts P} {h : StepperGhosts (ServiceStepper P g) ServiceError} {streams : StreamGhosts (ServiceStepper P g)}
+  where
+    -- pushes are pending behind so many clears, and all else stays
+    pub record PushesBehind (rule : Rule) (clears : ℕ) (old new : Live (ServiceStepper P g) ServiceError h streams) : Type 0 where
+      pub stepper : live.stepper new ≡ live.stepper old
+      pub followed_same : live.followed new ≡ live.followed old
+      pub pending_now : shown.ForSoundBook (its.service new)
+          (λ total book. live.pending new ≡ pushed_behind clears
+          (swept_followers rule book (shown.sessions (its.service new)) (live.followed old)))

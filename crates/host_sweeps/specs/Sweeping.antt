@@ -38,7 +38,8 @@ stepped state rule = book_stepped state.total state.book rule most_clears
 
 -- the frame that tells a step: how many clears it made, how many pages are in use behind them, and whether the rule makes more
 abbrev pub swept_frame : State → Rule → Frame
-swept_frame state rule = Report (Swept (length (step_clears state rule)) (pages_of (stepped state rule)) (nat_lt most_clears (length (sweeps state.total state.book rule))))
+swept_frame state rule = Report (Swept (length (step_clears state rule)) (pages_of (stepped state rule))
+    (nat_lt most_clears (length (sweeps state.total state.book rule))))
 
 -- The followed sessions that a frame is pushed to behind clears of a rule. Where the rule names a series, they are those whose
 -- last view is one of it; else all that have had a view.
@@ -58,7 +59,8 @@ pub record DoesStep (rule : Rule) (frame : Frame) (old new : LiveState) : Type 0
   pub frame_is : frame ≡ swept_frame old.state rule
   pub state_is : new.state ≡ record old.state { book = stepped old.state rule }
   pub followed_same : new.followed ≡ old.followed
-  pub pending_now : new.pending ≡ pushed_behind (length (step_clears old.state rule)) (swept_followers rule new.state.book new.state.sessions old.followed)
+  pub pending_now : new.pending ≡ pushed_behind (length (step_clears old.state rule))
+      (swept_followers rule new.state.book new.state.sessions old.followed)
 
 -- the rule names a series that isn't there, and nothing is done
 pub record RefusesStep (rule : Rule) (frame : Frame) (old new : LiveState) : Type 0 where

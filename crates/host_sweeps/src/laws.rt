@@ -1,5 +1,6 @@
 //! What follows from the definitions. The functions do nothing: their contracts are the laws.
-ghost use Rattle.host_sweeps.specs.Laws.{ClearsAreEdits, LastStepsSweep, StepsComeTogether, StepsGoOn, SweepsAreAccepted, SweepsAreDrawn, SweepsAreOne, SweepsKeepFollowing};
+ghost use Rattle.host_sweeps.specs.Laws.{ClearsAreEdits, LastStepsSweep, StepsComeTogether, StepsGoOn, SweepsAreAccepted, SweepsAreDrawn};
+ghost use Rattle.host_sweeps.specs.Laws.{SweepsAreOne, SweepsKeepFollowing};
 
 use retention::laws::steps_go_on;
 

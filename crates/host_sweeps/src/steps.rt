@@ -67,11 +67,14 @@ pub fn sweep_step<P: PageWorld>(
     ensures reply { its.ForBook live.old (λ total book. IfOk result (its.AnswersSo (SweepReplied rule.now) total book live.old live.new)) }
     ensures standing { its.ForBook live.old (λ total book. IfErr result IsOutside) }
     // the book behind some first clears of the step stays after an error
-    ensures left { its.ForBook live.old (λ total book. result ≢ Err ServiceError.DiskFault → SweepsSome rule.now (its.state live.old total book) (its.view live.new).image) }
+    ensures left { its.ForBook live.old (λ total book. result ≢ Err ServiceError.DiskFault
+        → SweepsSome rule.now (its.state live.old total book) (its.view live.new).image) }
     // and a crash at any moment leaves it
-    ensures moments { its.ForBook live.old (λ total book. shown.PassesTo (SweepsSome rule.now (its.state live.old total book)) (its.service live.old) (its.service live.new)) }
+    ensures moments { its.ForBook live.old (λ total book. shown.PassesTo (SweepsSome rule.now (its.state live.old total book))
+        (its.service live.old) (its.service live.new)) }
     // each clear is one commit at most, whatever is answered
-    ensures commits { its.ForBook live.old (λ total book. CommitsFew (length (step_clears (shown.state (its.service live.old) total book) rule.now)) (its.view live.old) (its.view live.new)) }
+    ensures commits { its.ForBook live.old (λ total book. CommitsFew
+        (length (step_clears (shown.state (its.service live.old) total book) rule.now)) (its.view live.old) (its.view live.new)) }
     // whatever the pages are
     ensures within { CommitsFew most_clears (its.view live.old) (its.view live.new) }
     ensures tells { IfOk result (λ frame. TellsStep frame (shown.IsTold (its.service live.old)) (its.view live.old) (its.view live.new)) }

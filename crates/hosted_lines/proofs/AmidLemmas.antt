@@ -6,8 +6,10 @@ use Rattle.live_service.specs.LiveReplies.{LiveState}
 use Rattle.series_book.specs.declared.one_series.Series.{Series}
 use Rattle.hosted_lines.specs.Amid.{IsAmidStep, IsThereAhead}
 
-module _ (IsThere IsThat : List Series → Type 0) (more : List Frame) (state : LiveState) (so : (after : List Series) → IsThere after → IsThat after) where
-  amid_step : (lines other beyond : List (Option (List ℕ))) → other ≡ lines ++ beyond → IsAmidStep IsThere more lines state → IsAmidStep IsThat more other state
+module _ (IsThere IsThat : List Series → Type 0) (more : List Frame) (state : LiveState) (so : (after : List Series) → IsThere after
+    → IsThat after) where
+  amid_step : (lines other beyond : List (Option (List ℕ))) → other ≡ lines ++ beyond → IsAmidStep IsThere more lines state
+      → IsAmidStep IsThat more other state
   amid_step lines other beyond is a = record {
     none = a.none;
     idle = a.idle;
@@ -22,19 +24,25 @@ module _ (IsThere IsThat : List Series → Type 0) (more : List Frame) (state : 
   }
 
   -- a book that is there otherwise, with more lines behind
-  pub amid_wide : (lines other beyond : List (Option (List ℕ))) → other ≡ lines ++ beyond → IsThereAhead IsThere more lines state → IsThereAhead IsThat more other state
+  pub amid_wide : (lines other beyond : List (Option (List ℕ))) → other ≡ lines ++ beyond → IsThereAhead IsThere more lines state
+      → IsThereAhead IsThat more other state
   amid_wide lines other beyond is (inl there) = inl (so state.state.book there)
   amid_wide lines other beyond is (inr amid) = inr (amid_step lines other beyond is amid)
 
 -- a book that is there otherwise
-pub amid_same : (IsThere IsThat : List Series → Type 0) (more : List Frame) (state : LiveState) → ((after : List Series) → IsThere after → IsThat after) → (lines : List (Option (List ℕ))) → IsThereAhead IsThere more lines state → IsThereAhead IsThat more lines state
+pub amid_same : (IsThere IsThat : List Series → Type 0) (more : List Frame) (state : LiveState)
+    → ((after : List Series) → IsThere after → IsThat after) → (lines : List (Option (List ℕ))) → IsThereAhead IsThere more lines state
+    → IsThereAhead IsThat more lines state
 amid_same IsThere IsThat more state so lines there = amid_wide IsThere IsThat more state so lines lines [] (sym (append-nil lines)) there
 
 -- the book that is there
-pub amid_book : (IsThere : List Series → Type 0) (more : List Frame) (state : LiveState) (lines : List (Option (List ℕ))) → IsThereAhead IsThere more lines state → (book : List Series) × IsThere book
+pub amid_book : (IsThere : List Series → Type 0) (more : List Frame) (state : LiveState) (lines : List (Option (List ℕ)))
+    → IsThereAhead IsThere more lines state → (book : List Series) × IsThere book
 amid_book IsThere more state lines (inl there) = (state.state.book, there)
 amid_book IsThere more state lines (inr amid) = (_, amid.there)
 
 -- the same book, with more lines behind
-pub amid_on : (IsThere : List Series → Type 0) (more : List Frame) (state : LiveState) (lines beyond : List (Option (List ℕ))) → IsThereAhead IsThere more lines state → IsThereAhead IsThere more (lines ++ beyond) state
-amid_on IsThere more state lines beyond there = amid_wide IsThere IsThere more state (λ after is. is) lines (lines ++ beyond) beyond refl there
+pub amid_on : (IsThere : List Series → Type 0) (more : List Frame) (state : LiveState) (lines beyond : List (Option (List ℕ)))
+    → IsThereAhead IsThere more lines state → IsThereAhead IsThere more (lines ++ beyond) state
+amid_on IsThere more state lines beyond there = amid_wide IsThere IsThere more state (λ after is. is) lines
+    (lines ++ beyond) beyond refl there

@@ -7,7 +7,8 @@ use Rattle.request_lines.specs.Grammar.{fault_of, kind_fault, kind_of, tokens_fa
 use Rattle.request_lines.specs.Requests.{named, read_by, read_line}
 use Rattle.request_lines.specs.declared.requests.Request.{Request}
 use Rattle.request_lines.specs.Tokens.{tokens}
-use Rattle.host_lines.specs.Grammar.{host_line, places_fault, rule_fault, rule_named, sum_named, sum_places, tokens_ask, unless, values_named, values_places}
+use Rattle.host_lines.specs.Grammar.{host_line, places_fault, rule_fault, rule_named, sum_named, sum_places, tokens_ask, unless}
+use Rattle.host_lines.specs.Grammar.{values_named, values_places}
 use Rattle.host_lines.specs.declared.asked.HostLine.{HostLine}
 use Rattle.host_lines.specs.declared.asked.HostLine.TheVariants.{List as ListLine, Other}
 
@@ -28,7 +29,8 @@ sweep_unknown : kind_of (codes "sweep") ≡ None
 unfolding kind_of
 sweep_unknown = refl
 
-module _ (end : ℕ) (word : List ℕ) (others : List (List ℕ)) (request : Request) (reads : read_by (tokens_fault end (word ∷ others)) (named (word ∷ others)) ≡ Ok request) where
+module _ (end : ℕ) (word : List ℕ) (others : List (List ℕ)) (request : Request)
+    (reads : read_by (tokens_fault end (word ∷ others)) (named (word ∷ others)) ≡ Ok request) where
   never : (known : List ℕ) → word ≡ known → kind_of known ≡ None → ⊥
   never known same none =
       let unknown : kind_of word ≡ None = ap kind_of same ∙ none in
@@ -48,14 +50,20 @@ module _ (end : ℕ) (word : List ℕ) (others : List (List ℕ)) (request : Req
   word_asks =
       let at : ℕ = length word + 1 in
       let sweeps : HostLine = if bytes_eq word (codes "sweep") then unless (rule_fault end others at) (rule_named others) else Other in
-      let sums : HostLine = if bytes_eq word (codes "sum") then unless (places_fault end sum_places others at) (sum_named others) else sweeps in
-      let tells : HostLine = if bytes_eq word (codes "values") then unless (places_fault end values_places others at) (values_named others) else sums in
+      let sums : HostLine = if bytes_eq word (codes "sum") then unless (places_fault end sum_places others at) (sum_named others)
+      else sweeps in
+      let tells : HostLine = if bytes_eq word (codes "values") then unless (places_fault end values_places others at) (values_named others)
+      else sums in
       ap (λ (b : Bool). if b then unless (places_fault end [] others at) ListLine else tells) (other_word (codes "list") list_unknown)
-      ∙ ap (λ (b : Bool). if b then unless (places_fault end values_places others at) (values_named others) else sums) (other_word (codes "values") values_unknown)
-      ∙ ap (λ (b : Bool). if b then unless (places_fault end sum_places others at) (sum_named others) else sweeps) (other_word (codes "sum") sum_unknown)
-      ∙ ap (λ (b : Bool). if b then unless (rule_fault end others at) (rule_named others) else Other) (other_word (codes "sweep") sweep_unknown)
+      ∙ ap (λ (b : Bool). if b then unless (places_fault end values_places others at) (values_named others)
+      else sums) (other_word (codes "values") values_unknown)
+      ∙ ap (λ (b : Bool). if b then unless (places_fault end sum_places others at) (sum_named others)
+      else sweeps) (other_word (codes "sum") sum_unknown)
+      ∙ ap (λ (b : Bool). if b then unless (rule_fault end others at) (rule_named others)
+      else Other) (other_word (codes "sweep") sweep_unknown)
 
-tokens_none : (end : ℕ) (ts : List (List ℕ)) (request : Request) → read_by (tokens_fault end ts) (named ts) ≡ Ok request → tokens_ask end ts ≡ Other
+tokens_none : (end : ℕ) (ts : List (List ℕ)) (request : Request) → read_by (tokens_fault end ts) (named ts) ≡ Ok request
+    → tokens_ask end ts ≡ Other
 tokens_none end [] request reads = refl
 tokens_none end (word ∷ others) request reads = word_asks end word others request reads
 

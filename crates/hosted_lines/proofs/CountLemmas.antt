@@ -1,5 +1,6 @@
 -- How many groups there are over lines.
-use Rattle.std.proofs.Common.{◌≡◌, ◌∙◌, ℕ, ◌+◌, ◌-◌, ◌*◌, ◌/◌, ◌^◌, ◌<◌, ◌≤◌, List, [], ◌∷◌, ◌++◌, length, Option, None, Some, Result, Ok, Err, refl, ap, sym, subst, arith, length-append}
+use Rattle.std.proofs.Common.{◌≡◌, ◌∙◌, ℕ, ◌+◌, ◌-◌, ◌*◌, ◌/◌, ◌^◌, ◌<◌, ◌≤◌, List, [], ◌∷◌, ◌++◌, length, Option, None, Some, Result, Ok}
+use Rattle.std.proofs.Common.{Err, refl, ap, sym, subst, arith, length-append}
 use Rattle.std.proofs.Math.Nat.{le-div_iff_mul-le}
 use Rattle.std.proofs.lemmas.List.{append-nil}
 use Rattle.chart_service.specs.EditGroups.{SpellEdits}
@@ -41,7 +42,8 @@ groups_of_live (pushed ∷ later) = groups_of_live later
 pub by_none : (spare : ℕ) → GroupsBy [] 0 spare
 by_none spare = record { others = 0; counted = refl; few = omega arith }
 
-pub by_then : (lines more : List (Option (List ℕ))) (groups groups' spare spare' : ℕ) → GroupsBy lines groups spare → GroupsBy more groups' spare' → GroupsBy (lines ++ more) (groups + groups') (spare + spare')
+pub by_then : (lines more : List (Option (List ℕ))) (groups groups' spare spare' : ℕ) → GroupsBy lines groups spare
+    → GroupsBy more groups' spare' → GroupsBy (lines ++ more) (groups + groups') (spare + spare')
 by_then lines more groups groups' spare spare' one two =
     let joined = ap length (edits_joined lines more) in
     let both = length-append (edits_of lines) (edits_of more) in
@@ -76,7 +78,8 @@ pub by_any : (lines : List (Option (List ℕ))) → GroupsBy lines 0 0
 by_any lines = record { others = length lines - length (edits_of lines); counted = omega (arith, edits_few lines); few = omega arith }
 
 -- no more groups over the same lines
-pub by_fewer : (lines other : List (Option (List ℕ))) (groups groups' spare : ℕ) → other ≡ lines → groups' ≤ groups → GroupsBy lines groups spare → GroupsBy other groups' spare
+pub by_fewer : (lines other : List (Option (List ℕ))) (groups groups' spare : ℕ) → other ≡ lines → groups' ≤ groups
+    → GroupsBy lines groups spare → GroupsBy other groups' spare
 by_fewer lines other groups groups' spare same fewer by =
     let G : List (Option (List ℕ)) → Type 0 = λ l. GroupsBy l groups' spare in
     subst G (sym same) (record { others = by.others; counted = by.counted; few = omega (arith, fewer, by.few) })
@@ -104,7 +107,8 @@ module _ (lines : List (Option (List ℕ))) (edits : List Edit) (spell : SpellEd
 -- ---- a run
 
 -- with so many pauses, and a group more
-few_so : (lines : List (Option (List ℕ))) (groups all paused pieces pieces' : ℕ) → GroupsBy lines groups paused → all ≤ groups + 1 → (pieces' < 2 ^ 64 - 1 → pieces + paused ≤ pieces' + 2) → FewGroups lines all pieces pieces'
+few_so : (lines : List (Option (List ℕ))) (groups all paused pieces pieces' : ℕ) → GroupsBy lines groups paused → all ≤ groups + 1
+    → (pieces' < 2 ^ 64 - 1 → pieces + paused ≤ pieces' + 2) → FewGroups lines all pieces pieces'
 few_so lines groups all paused pieces pieces' by one few = record {
   others = by.others;
   counted = by.counted;
@@ -115,16 +119,22 @@ few_so lines groups all paused pieces pieces' by one few = record {
 }
 
 -- these events, which answer these lines
-pub few_all : (events : List Event) (lines : List (Option (List ℕ))) (paused pieces pieces' : ℕ) → lines ≡ lines_in events → GroupsBy (lines_in events) (groups_in events) paused → (pieces' < 2 ^ 64 - 1 → pieces + paused ≤ pieces' + 2) → FewGroups lines (groups_in events) pieces pieces'
+pub few_all : (events : List Event) (lines : List (Option (List ℕ))) (paused pieces pieces' : ℕ) → lines ≡ lines_in events
+    → GroupsBy (lines_in events) (groups_in events) paused → (pieces' < 2 ^ 64 - 1 → pieces + paused ≤ pieces' + 2)
+    → FewGroups lines (groups_in events) pieces pieces'
 few_all events lines paused pieces pieces' are by few =
-    few_so lines (groups_in events) (groups_in events) paused pieces pieces' (by_fewer (lines_in events) lines (groups_in events) (groups_in events) paused are (omega arith) by) (omega arith) few
+    few_so lines (groups_in events) (groups_in events) paused pieces pieces'
+    (by_fewer (lines_in events) lines (groups_in events) (groups_in events) paused are (omega arith) by) (omega arith) few
 
 -- and later ones, of which at most one is a group
-pub few_more : (events later : List Event) (lines : List (Option (List ℕ))) (paused pieces pieces' : ℕ) → lines ≡ lines_in (events ++ later) → GroupsBy (lines_in events) (groups_in events) paused → groups_in later ≤ 1 → (pieces' < 2 ^ 64 - 1 → pieces + paused ≤ pieces' + 2) → FewGroups lines (groups_in (events ++ later)) pieces pieces'
+pub few_more : (events later : List Event) (lines : List (Option (List ℕ))) (paused pieces pieces' : ℕ) → lines ≡ lines_in (events ++ later)
+    → GroupsBy (lines_in events) (groups_in events) paused → groups_in later ≤ 1 → (pieces' < 2 ^ 64 - 1 → pieces + paused ≤ pieces' + 2)
+    → FewGroups lines (groups_in (events ++ later)) pieces pieces'
 few_more events later lines paused pieces pieces' are by one few =
     let more = by_then (lines_in events) (lines_in later) (groups_in events) 0 paused 0 by (by_any (lines_in later)) in
     few_so lines (groups_in events) (groups_in (events ++ later)) paused pieces pieces'
-    (by_fewer (lines_in events ++ lines_in later) lines (groups_in events) (groups_in events) paused (are ∙ lines_joined events later) (omega arith)
+    (by_fewer (lines_in events ++ lines_in later) lines (groups_in events) (groups_in events) paused (are
+    ∙ lines_joined events later) (omega arith)
     (record { others = more.others; counted = more.counted; few = omega (arith, more.few) }))
     (omega (arith, one, groups_joined events later)) few
 

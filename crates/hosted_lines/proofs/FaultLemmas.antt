@@ -29,7 +29,8 @@ step_short (step.Damaged page) end is same = cc
 step_short step.NoMemory end is same = cc
 
 -- an answer or a push that failed
-pub unmade_counts : (error : ServiceError) (end : End) (old new : View) → end ≡ step_end error → CountsFault (step_fault error) old new → CountsFault (end_fault end) old new
+pub unmade_counts : (error : ServiceError) (end : End) (old new : View) → end ≡ step_end error → CountsFault (step_fault error) old new
+    → CountsFault (end_fault end) old new
 unmade_counts error end old new is counts =
     let P : Option Fault → Type 0 = λ f. CountsFault f old new in
     subst P (sym (ap (λ (e : End). end_fault e) is ∙ step_fault_is error)) counts

@@ -1,5 +1,6 @@
 -- Which lines of an input were answered, by lines that were given.
-use Rattle.std.proofs.Common.{◌≡◌, ◌∙◌, ℕ, ◌≤◌, ◌⊎◌, List, [], ◌∷◌, ◌++◌, length, Option, ap, sym, subst, inl, inr, arith, append_assoc, length-append}
+use Rattle.std.proofs.Common.{◌≡◌, ◌∙◌, ℕ, ◌≤◌, ◌⊎◌, List, [], ◌∷◌, ◌++◌, length, Option, ap, sym, subst, inl, inr, arith, append_assoc}
+use Rattle.std.proofs.Common.{length-append}
 use Rattle.std.specs.List.{filter, after_first}
 use Rattle.std.proofs.lemmas.List.{append-nil}
 use Rattle.chart_frames.specs.declared.frame.Frame.{Frame}
@@ -42,7 +43,8 @@ module _ (input front rest : List ℕ) (begins : BeginsWith input front rest) (e
   same_front : (all : List (Option (List ℕ))) → told front ≡ all → Front input all
   same_front all is = record { front = front; rest = rest; begins = begins; early = early; told_is = is }
 
-  whole_of : (bytes : List ℕ) (line : Option (List ℕ)) (later : List (Option (List ℕ))) → IsWhole front ⊎ (bytes ≡ []) → lines bytes ≡ line ∷ later → IsWhole front
+  whole_of : (bytes : List ℕ) (line : Option (List ℕ)) (later : List (Option (List ℕ))) → IsWhole front ⊎ (bytes ≡ [])
+      → lines bytes ≡ line ∷ later → IsWhole front
   whole_of bytes line later (inl whole) is = whole
   whole_of bytes line later (inr none) is = absurd (no_lines (sym (ap lines none ∙ lines_none) ∙ is))
 
@@ -61,7 +63,8 @@ module _ (input front rest : List ℕ) (begins : BeginsWith input front rest) (e
           ];
         };
         early = omega (arith, next.early, length-append front first);
-        told_is = told_behind front first whole ∙ ap (λ l. told front ++ filter says l) (piece_line rest line (first_of rest line next.later next.lines_are));
+        told_is = told_behind front first whole ∙ ap (λ l. told front ++ filter says l)
+            (piece_line rest line (first_of rest line next.later next.lines_are));
       }
 
   more_front : (next : Given) → IsNextWithin most_bytes (length front) rest next → Front input (told front ++ lines_of next)
@@ -72,7 +75,8 @@ module _ (input front rest : List ℕ) (begins : BeginsWith input front rest) (e
 -- ---- the first of them
 
 -- a part of a front is a front
-part_begins : (input front rest piece behind : List ℕ) → BeginsWith input front rest → BeginsWith front piece behind → BeginsWith input piece (behind ++ rest)
+part_begins : (input front rest piece behind : List ℕ) → BeginsWith input front rest → BeginsWith front piece behind
+    → BeginsWith input piece (behind ++ rest)
 part_begins input front rest piece behind all part = record {
   split = all.split ∙ ap (λ l. l ++ rest) part.split ∙ append_assoc piece behind rest;
   whole = elim part.whole [
@@ -111,7 +115,8 @@ placed input done left f =
       early = omega (arith, f.early, ap length s.begins.split, length-append s.front s.rest);
       done_are = s.first_are;
       beyond = told f.rest;
-      left_are = behind_told s.rest f.rest (whole_behind s.front s.rest f.front s.begins.split f.begins.whole) ∙ ap (λ l. l ++ told f.rest) s.later_are;
+      left_are = behind_told s.rest f.rest (whole_behind s.front s.rest f.front s.begins.split f.begins.whole)
+          ∙ ap (λ l. l ++ told f.rest) s.later_are;
     }
   where
     nothing_behind : (front piece : List ℕ) → front ++ piece ≡ [] → piece ≡ []
@@ -124,11 +129,13 @@ placed input done left f =
     whole_part (b ∷ bs) piece (inr ([], is)) = inl (nothing_behind bs piece (cc (is)))
     whole_part (b ∷ bs) piece (inr (x ∷ xs, is)) = whole_part bs piece (inr (xs, cc (is)))
 
-    whole_behind : (front piece all : List ℕ) {rest : List ℕ} → all ≡ front ++ piece → IsWhole all ⊎ (rest ≡ []) → IsWhole piece ⊎ (rest ≡ [])
+    whole_behind : (front piece all : List ℕ) {rest : List ℕ} → all ≡ front ++ piece → IsWhole all ⊎ (rest ≡ [])
+        → IsWhole piece ⊎ (rest ≡ [])
     whole_behind front piece all {rest} is (inl whole) = inl (whole_part front piece (subst IsWhole is whole))
     whole_behind front piece all {rest} is (inr none) = inr none
 
-abbrev pub first_placed : (input : List ℕ) (events : List Event) (left : List (Option (List ℕ))) (frames : List Frame) (old new : LiveState) → InRow Happens old events frames new → Place input (lines_in events) left → FirstLines input frames old new
+abbrev pub first_placed : (input : List ℕ) (events : List Event) (left : List (Option (List ℕ))) (frames : List Frame) (old new : LiveState)
+    → InRow Happens old events frames new → Place input (lines_in events) left → FirstLines input frames old new
 first_placed input events left frames old new happened p = record {
   front = p.front;
   rest = p.rest;
@@ -138,12 +145,21 @@ first_placed input events left frames old new happened p = record {
 }
 
 -- what was given is a front of the input, and so it is with what comes next
-pub given_front : (input : List ℕ) (given : List Given) (all : List (Option (List ℕ))) → lines_all given ≡ all → AreFirst input given → Front input all
+pub given_front : (input : List ℕ) (given : List Given) (all : List (Option (List ℕ))) → lines_all given ≡ all → AreFirst input given
+    → Front input all
 given_front input given all is are =
-    record { front = are.front; rest = are.rest; begins = are.begins; early = are.early; told_is = sym (told_are given are.front are.given_are) ∙ is }
+    record {
+      front = are.front;
+      rest = are.rest;
+      begins = are.begins;
+      early = are.early;
+      told_is = sym (told_are given are.front are.given_are) ∙ is;
+    }
 
-pub next_front : (input : List ℕ) (given : List Given) (next : Given) (all : List (Option (List ℕ))) → lines_all given ++ lines_of next ≡ all → AreBefore input given next → Front input all
+pub next_front : (input : List ℕ) (given : List Given) (next : Given) (all : List (Option (List ℕ)))
+    → lines_all given ++ lines_of next ≡ all → AreBefore input given next → Front input all
 next_front input given next all is are =
     let first = are.first in
-    front_so input (told first.front ++ lines_of next) all (ap (λ l. l ++ lines_of next) (sym (told_are given first.front first.given_are)) ∙ is)
+    front_so input (told first.front ++ lines_of next) all (ap (λ l. l ++ lines_of next) (sym (told_are given first.front first.given_are))
+    ∙ is)
     (more_front input first.front first.rest first.begins first.early next are.next_is)

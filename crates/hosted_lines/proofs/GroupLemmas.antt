@@ -1,5 +1,6 @@
 -- A group of edits is done, and its replies are sent.
-use Rattle.std.proofs.Common.{◌≡◌, ◌≢◌, ◌∙◌, ℕ, ◌+◌, ◌*◌, ◌≤◌, List, [], ◌∷◌, ◌++◌, length, Option, Result, Err, ap, sym, subst, inl, inr, arith, length-append}
+use Rattle.std.proofs.Common.{◌≡◌, ◌≢◌, ◌∙◌, ℕ, ◌+◌, ◌*◌, ◌≤◌, List, [], ◌∷◌, ◌++◌, length, Option, Result, Err, ap, sym, subst, inl, inr}
+use Rattle.std.proofs.Common.{arith, length-append}
 use Rattle.std.specs.Prelude.{OnOk, IfErr}
 use Rattle.std.proofs.lemmas.List.{append-nil}
 use Rattle.block_disk.specs.Streams.{sent_after}
@@ -37,7 +38,8 @@ use Rattle.hosted_lines.proofs.SpelledLemmas.{replied_length, spell_first, spell
 one_group : (lines rest : List (Option (List ℕ))) → lines ++ rest ≡ lines_in (group lines ∷ []) ++ rest
 one_group lines rest = ap (λ l. l ++ rest) (sym (append-nil lines))
 
-module _ (lines : List (Option (List ℕ))) (edits : List Edit) (total : ℕ) (book : List Series) (held : Held) (spell : SpellEdits lines edits) (few : length edits ≤ most_ahead) (idle : held.pending ≡ []) where
+module _ (lines : List (Option (List ℕ))) (edits : List Edit) (total : ℕ) (book : List Series) (held : Held)
+    (spell : SpellEdits lines edits) (few : length edits ≤ most_ahead) (idle : held.pending ≡ []) where
   abbrev old : LiveState
   old = held_with total book held
 
@@ -83,7 +85,8 @@ module _ (lines : List (Option (List ℕ))) (edits : List Edit) (total : ℕ) (b
         stands = d.stands;
       }
 
-  some_moment : (from : ℕ) (image : Image) (count : ℕ) → DoesSome edits old image → count ≡ from → HostMoment lines total old from image count
+  some_moment : (from : ℕ) (image : Image) (count : ℕ) → DoesSome edits old image → count ≡ from
+      → HostMoment lines total old from image count
   some_moment from image count d same =
       let some = some_begun image d in
       record {
@@ -98,13 +101,16 @@ module _ (lines : List (Option (List ℕ))) (edits : List Edit) (total : ℕ) (b
       }
 
   -- while they are done
-  pub group_moments : (view mid : View) → Passes view mid (DoesSome edits old) (Quiet view) → Through view mid (HostMoment lines total old (sent_now view))
+  pub group_moments : (view mid : View) → Passes view mid (DoesSome edits old) (Quiet view)
+      → Through view mid (HostMoment lines total old (sent_now view))
   group_moments view mid passes =
-      through_by view mid (DoesSome edits old) (Quiet view) (HostMoment lines total old (sent_now view)) passes (λ image count left quiet. some_moment (sent_now view) image count left quiet)
+      through_by view mid (DoesSome edits old) (Quiet view) (HostMoment lines total old (sent_now view)) passes
+      (λ image count left quiet. some_moment (sent_now view) image count left quiet)
 
   -- ---- they aren't answered
 
-  group_stops : (error : ServiceError) (image : Image) (before now : Option (List ℕ)) → IsOutside error → (error ≢ step.DiskFault → DoesSome edits old image) → now ≡ before → HostStop lines total old image before now (step_end error)
+  group_stops : (error : ServiceError) (image : Image) (before now : Option (List ℕ)) → IsOutside error
+      → (error ≢ step.DiskFault → DoesSome edits old image) → now ≡ before → HostStop lines total old image before now (step_end error)
   group_stops step.DiskFault image before now outside left unsent =
       record { frames = []; state = old; begun = begun_none lines old; sent = unsent ∙ sent_none before }
   group_stops (step.Damaged page) image before now outside left unsent = elim outside [
@@ -113,16 +119,29 @@ module _ (lines : List (Option (List ℕ))) (edits : List Edit) (total : ℕ) (b
   ]
   group_stops step.NoMemory image before now outside left unsent =
       let some = some_begun image (left (λ is. cc)) in
-      record { shown = []; more = some.frames; few = some.few_are; state = some.after; begun = some.begun; stands = inl some.stands; sent = unsent ∙ sent_none before }
+      record {
+        shown = [];
+        more = some.frames;
+        few = some.few_are;
+        state = some.after;
+        begun = some.begun;
+        stands = inl some.stands;
+        sent = unsent ∙ sent_none before;
+      }
 
-  group_costs : (reads reads' syncs syncs' : ℕ) → reads' ≤ reads + 96 * length edits → syncs' ≤ syncs + group_syncs total book edits → Costs (group lines) old reads reads' syncs syncs'
+  group_costs : (reads reads' syncs syncs' : ℕ) → reads' ≤ reads + 96 * length edits → syncs' ≤ syncs + group_syncs total book edits
+      → Costs (group lines) old reads reads' syncs syncs'
   group_costs reads reads' syncs syncs' read synced = record {
     reads_few = omega (arith, read, spelled_length lines edits spell);
-    syncs_few = let E : List Edit → Type 0 = λ l. syncs' ≤ syncs + group_syncs total book l in subst E (sym (spelled_edits lines edits spell)) synced;
+    syncs_few = let E : List Edit → Type 0 = λ l. syncs' ≤ syncs + group_syncs total book l in
+        subst E (sym (spelled_edits lines edits spell)) synced;
   }
 
   -- they failed
-  pub group_unmade : {T : Type 0} (error : ServiceError) (end : End) (held' : Held) (view mid : View) (before now : Option (List ℕ)) → end ≡ step_end error → IsOutside error → (error ≢ step.DiskFault → DoesSome edits old mid.image) → now ≡ before → Passes view mid (DoesSome edits old) (Quiet view) → mid.reads ≤ view.reads + 96 * length edits → mid.syncs ≤ view.syncs + group_syncs total book edits
+  pub group_unmade : {T : Type 0} (error : ServiceError) (end : End) (held' : Held) (view mid : View) (before now : Option (List ℕ))
+      → end ≡ step_end error → IsOutside error → (error ≢ step.DiskFault → DoesSome edits old mid.image) → now ≡ before
+      → Passes view mid (DoesSome edits old) (Quiet view) → mid.reads ≤ view.reads + 96 * length edits
+      → mid.syncs ≤ view.syncs + group_syncs total book edits
       → DoesHost {T = T} 1 lines total old (Err end) view mid held' before now
   group_unmade {T} error end held' view mid before now is outside left unsent passes read synced =
       let P : End → Type 0 = λ e. HostStop lines total old mid.image before now e in
@@ -130,14 +149,25 @@ module _ (lines : List (Option (List ℕ))) (edits : List Edit) (total : ℕ) (b
         done = tt;
         stops = subst P (sym is) (group_stops error mid.image before now outside left unsent);
         moments = told_any (group_moments view mid passes) before;
-        cost = made_failed lines (group lines) (append-nil lines) total old view.reads mid.reads view.syncs mid.syncs (group_costs view.reads mid.reads view.syncs mid.syncs read synced) 1;
+        cost = made_failed lines (group lines) (append-nil lines) total old view.reads mid.reads view.syncs mid.syncs
+            (group_costs view.reads mid.reads view.syncs mid.syncs read synced) 1;
       }
 
   -- ---- their replies are sent
 
-  pub group_sends : {T : Type 0} (frames : List Frame) (held' held'' : Held) → held'' ≡ held' → (book' : List Series) → GroupReplied edits frames old (held_with total book' held') → IsSound (state_of book' total held'.sessions) → (view mid new : View) (before between now : Option (List ℕ)) → StandsForBook mid.image total book' → Passes view mid (DoesSome edits old) (Quiet view) → sent_now mid ≡ sent_now view → between ≡ before
-      → mid.reads ≤ view.reads + 96 * length edits → mid.syncs ≤ view.syncs + group_syncs total book edits → DiskKept mid new → (result : Result T End) → OnOk result (now ≡ sent_after (spelled frames) between) → IfErr result (FramesStop frames between now) → Only mid.image (Now mid) → Passes mid new (Now mid) (λ count. (sent_now mid ≤ count) × (count ≤ sent_now new)) → sent_now new ≤ sent_now mid + length (spelled frames)
+  pub group_sends : {T : Type 0} (frames : List Frame) (held' held'' : Held) → held'' ≡ held' → (book' : List Series)
+      → GroupReplied edits frames old (held_with total book' held') → IsSound (state_of book' total held'.sessions)
+      → (view mid new : View) (before between now : Option (List ℕ)) → StandsForBook mid.image total book'
+      → Passes view mid (DoesSome edits old) (Quiet view) → sent_now mid ≡ sent_now view → between ≡ before
+      → mid.reads ≤ view.reads + 96 * length edits → mid.syncs ≤ view.syncs + group_syncs total book edits → DiskKept mid new
+      → (result : Result T End) → OnOk result (now ≡ sent_after (spelled frames) between) → IfErr result (FramesStop frames between now)
+      → Only mid.image (Now mid) → Passes mid new (Now mid) (λ count. (sent_now mid ≤ count) × (count ≤ sent_now new))
+      → sent_now new ≤ sent_now mid + length (spelled frames)
       → DoesHost 1 lines total old result view new held'' before now
-  group_sends {T} frames held' held'' same book' replied sound view mid new before between now stands passes quiet unsent read synced kept result whole stops only sends most =
-      made_sends lines (group lines) (append-nil lines) total old frames (few_frames frames (held_with total book' held') replied) held' held'' same book' (group_happens frames (held_with total book' held') replied) sound view mid new before between now stands
-      (group_moments view mid passes) quiet unsent (group_costs view.reads mid.reads view.syncs mid.syncs read synced) kept result whole stops only sends most
+  group_sends {T} frames held' held'' same book' replied sound view mid new before between now stands passes quiet unsent read synced kept
+      result whole stops only sends most =
+      made_sends lines (group lines) (append-nil lines) total old frames
+      (few_frames frames (held_with total book' held') replied) held' held'' same book'
+      (group_happens frames (held_with total book' held') replied) sound view mid new before between now stands
+      (group_moments view mid passes) quiet unsent (group_costs view.reads mid.reads view.syncs mid.syncs read synced) kept result whole
+      stops only sends most

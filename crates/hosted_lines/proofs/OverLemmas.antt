@@ -21,12 +21,15 @@ record OverBooks (old : Hosted) (given : List Given) (text : List ℕ) (stand : 
   pub is : stand ≡ Over new
   pub carries : Carries Does old given text new
 
-over_books : (given : List Given) (old : Hosted) (text : List ℕ) (stand : Stand) → Carries DoesFrom (Over old) given text stand → OverBooks old given text stand
+over_books : (given : List Given) (old : Hosted) (text : List ℕ) (stand : Stand) → Carries DoesFrom (Over old) given text stand
+    → OverBooks old given text stand
 over_books [] old text stand all = record { new = old; is = all.1; carries = (all.0, refl) }
 over_books (it ∷ later) old text stand all =
-    by all.between all.does (λ mid same. over_books later mid all.more stand (let C : Stand → Type 0 = λ b. Carries DoesFrom b later all.more stand in subst C same all.others)) refl
+    by all.between all.does (λ mid same. over_books later mid all.more stand (let C : Stand
+    → Type 0 = λ b. Carries DoesFrom b later all.more stand in subst C same all.others)) refl
   where
-    by : (between : Stand) → DoesFrom (Over old) it all.first between → ((mid : Hosted) → all.between ≡ Over mid → OverBooks mid later all.more stand) → all.between ≡ between
+    by : (between : Stand) → DoesFrom (Over old) it all.first between
+        → ((mid : Hosted) → all.between ≡ Over mid → OverBooks mid later all.more stand) → all.between ≡ between
         → OverBooks old (it ∷ later) text stand
     by (Any named) does others same = absurd does
     by (Over mid) does others same =
@@ -48,7 +51,8 @@ module _ (old : Hosted) where
     abbrev AreNow : Hosted → Type 0
     AreNow hosted = IsHosted hosted edits told view held now
 
-    over_runs : (AreSo : List ℕ → List Given → Type 0) (input before : Option (List ℕ)) → Runs DoesFrom (Over old) AreSo IsNow input before now → Runs Does old AreSo AreNow input before now
+    over_runs : (AreSo : List ℕ → List Given → Type 0) (input before : Option (List ℕ))
+        → Runs DoesFrom (Over old) AreSo IsNow input before now → Runs Does old AreSo AreNow input before now
     over_runs AreSo input before r =
         let books = done_books r.done in
         record {
@@ -80,12 +84,14 @@ module _ (old : Hosted) where
             why = subst W books.is r.why;
           }
 
-      pub over_stops : {T : Type 0} (answer : Result T (LinesStop End)) → IfErr answer (StopsSoWithin limit DoesFrom Stopping IsNow (Over old) input left before now pieces pieces')
+      pub over_stops : {T : Type 0} (answer : Result T (LinesStop End))
+          → IfErr answer (StopsSoWithin limit DoesFrom Stopping IsNow (Over old) input left before now pieces pieces')
           → IfErr answer (StopsSoWithin limit Does Stopped AreNow old input left before now pieces pieces')
       over_stops {T} (Ok v) stops = tt
       over_stops {T} (Err why) stops = over_stop why stops
 
-    pub over_done : {T E : Type 0} (answer : Result T E) (AreSo : List ℕ → List Given → Type 0) (input before : Option (List ℕ)) → OnOk answer (Runs DoesFrom (Over old) AreSo IsNow input before now)
+    pub over_done : {T E : Type 0} (answer : Result T E) (AreSo : List ℕ → List Given → Type 0) (input before : Option (List ℕ))
+        → OnOk answer (Runs DoesFrom (Over old) AreSo IsNow input before now)
         → OnOk answer (Runs Does old AreSo AreNow input before now)
     over_done {T} {E} (Ok v) AreSo input before r = over_runs AreSo input before r
     over_done {T} {E} (Err e) AreSo input before r = tt
@@ -103,11 +109,21 @@ module _ (old : Hosted) where
           is = elim a.is [
             | inl between ↦ inl (record { are = between.are; rests_so = subst R books.is between.rests_so; sent_is = between.sent_is })
             | inr amid ↦ inr (let L : Stand → Type 0 = λ s. LeavesFrom s amid.next amid.begun image count in
-                record { next = amid.next; are = amid.are; begun = amid.begun; begun_is = amid.begun_is; leaves_so = subst L books.is amid.leaves_so })
+                record {
+                  next = amid.next;
+                  are = amid.are;
+                  begun = amid.begun;
+                  begun_is = amid.begun_is;
+                  leaves_so = subst L books.is amid.leaves_so;
+                })
           ];
         }
 
     pub over_lasts : (first last : View) → Since first last (IsAheadWithin limit DoesFrom RestsFrom LeavesFrom (Over old) input before from)
         → Since first last (IsAheadWithin limit Does Rests Leaves old input before from)
     over_lasts first last since =
-        record { goes = since.goes; here = λ time image low high left. over_ahead image (last.sent_by time) (since.here time image low high left) }
+        record {
+          goes = since.goes;
+          here = λ time image low high left. over_ahead image (last.sent_by time)
+              (since.here time image low high left);
+        }

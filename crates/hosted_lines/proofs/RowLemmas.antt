@@ -11,7 +11,8 @@ use Rattle.hosted_lines.specs.Reads.{ReadsInTurn}
 
 module _ {X : Type 0} (happens : Event → List Frame → X → X → Type 0) where
   -- events behind others do what both do
-  pub row_then : (old mid new : X) (first later : List Event) (frames more : List Frame) → InRow happens old first frames mid → InRow happens mid later more new → InRow happens old (first ++ later) (frames ++ more) new
+  pub row_then : (old mid new : X) (first later : List Event) (frames more : List Frame) → InRow happens old first frames mid
+      → InRow happens mid later more new → InRow happens old (first ++ later) (frames ++ more) new
   row_then old mid new [] later frames more one two =
       let P : X → Type 0 = λ x. InRow happens x later more new in
       let F : List Frame → Type 0 = λ f. InRow happens old later (f ++ more) new in
@@ -25,12 +26,14 @@ module _ {X : Type 0} (happens : Event → List Frame → X → X → Type 0) wh
     frames_are = ap (λ f. f ++ more) one.frames_are ∙ append_assoc one.first one.more more;
   }
 
-  pub row_one : (old new : X) (event : Event) (frames : List Frame) → happens event frames old new → InRow happens old (event ∷ []) frames new
+  pub row_one : (old new : X) (event : Event) (frames : List Frame) → happens event frames old new
+      → InRow happens old (event ∷ []) frames new
   row_one old new event frames one =
       record { first = frames; between = new; happens = one; more = []; later = (refl, refl); frames_are = sym (append-nil frames) }
 
 -- without what they cost
-pub row_plain : (old new : Counted) (events : List Event) (frames : List Frame) → InRow HappensFor old events frames new → InRow Happens old.live events frames new.live
+pub row_plain : (old new : Counted) (events : List Event) (frames : List Frame) → InRow HappensFor old events frames new
+    → InRow Happens old.live events frames new.live
 row_plain old new [] frames row = (row.0, ap (λ (c : Counted). c.live) row.1)
 row_plain old new (event ∷ later) frames row = record {
   first = row.first;
@@ -71,7 +74,8 @@ lines_of_live [] = refl
 lines_of_live (answered line ∷ later) = ap (λ l. line ∷ l) (lines_of_live later)
 lines_of_live (pushed ∷ later) = lines_of_live later
 
-pub row_of_live : (old new : LiveState) (events : List LiveEvent) (frames : List Frame) → ArePassed (live_lines events) → Lives old events frames new → InRow Happens old (of_live events) frames new
+pub row_of_live : (old new : LiveState) (events : List LiveEvent) (frames : List Frame) → ArePassed (live_lines events)
+    → Lives old events frames new → InRow Happens old (of_live events) frames new
 row_of_live old new [] [] passed lived = (refl, lived)
 row_of_live old new [] (frame ∷ frames) passed lived = absurd lived
 row_of_live old new (answered line ∷ later) [] passed lived = absurd lived
@@ -97,7 +101,9 @@ abbrev counted : LiveState → ℕ → ℕ → Counted
 counted live reads syncs = record { live = live; reads = reads; syncs = syncs }
 
 -- while the disk isn't synced
-pub row_of_reads : (syncs : ℕ) (old new : LiveState) (events : List LiveEvent) (frames : List Frame) (from to : ℕ) → ArePassed (live_lines events) → ReadsInTurn old events frames new from to → InRow HappensFor (counted old from syncs) (of_live events) frames (counted new to syncs)
+pub row_of_reads : (syncs : ℕ) (old new : LiveState) (events : List LiveEvent) (frames : List Frame) (from to : ℕ)
+    → ArePassed (live_lines events) → ReadsInTurn old events frames new from to
+    → InRow HappensFor (counted old from syncs) (of_live events) frames (counted new to syncs)
 row_of_reads syncs old new [] [] from to passed row = (refl, (λ i. counted (row.0 i) (row.1 i) syncs))
 row_of_reads syncs old new [] (frame ∷ frames) from to passed row = absurd row
 row_of_reads syncs old new (answered line ∷ later) [] from to passed row = absurd row

@@ -26,7 +26,8 @@ spell_first (line ∷ lines) (edit ∷ first) later spell =
     record { front = line ∷ next.front; rest = next.rest; lines_are = ap (λ l. line ∷ l) next.lines_are; spell = (spell.0, next.spell) }
 
 -- one more
-pub spell_more : (lines : List (Option (List ℕ))) (edits : List Edit) (line : Option (List ℕ)) (edit : Edit) → SpellEdits lines edits → SpellsEdit line edit → SpellEdits (lines ++ line ∷ []) (edits ++ edit ∷ [])
+pub spell_more : (lines : List (Option (List ℕ))) (edits : List Edit) (line : Option (List ℕ)) (edit : Edit) → SpellEdits lines edits
+    → SpellsEdit line edit → SpellEdits (lines ++ line ∷ []) (edits ++ edit ∷ [])
 spell_more [] [] line edit spell one = (one, tt)
 spell_more [] (e ∷ edits) line edit spell one = absurd spell
 spell_more (l ∷ lines) [] line edit spell one = absurd spell
@@ -40,14 +41,16 @@ spell_none lines edits none spell = by lines (spelled_length lines edits spell �
     by [] is = refl
     by (x ∷ xs) is = absurd (omega (arith, is))
 
-pub replied_length : (edits : List Edit) (frames : List Frame) (old new : State) → RepliesToEdits edits frames old new → length frames ≡ length edits
+pub replied_length : (edits : List Edit) (frames : List Frame) (old new : State) → RepliesToEdits edits frames old new
+    → length frames ≡ length edits
 replied_length [] [] old new replied = refl
 replied_length [] (frame ∷ frames) old new replied = absurd replied
 replied_length (edit ∷ edits) [] old new replied = absurd replied
 replied_length (edit ∷ edits) (frame ∷ frames) old new replied = omega (arith, replied_length edits frames replied.0 new replied.2)
 
 -- what holds of the book and the sessions goes on to hold
-pub sound_edits : (edits : List Edit) (frames : List Frame) (old new : State) → RepliesToEdits edits frames old new → IsSound old → IsSound new
+pub sound_edits : (edits : List Edit) (frames : List Frame) (old new : State) → RepliesToEdits edits frames old new → IsSound old
+    → IsSound new
 sound_edits [] [] old new same sound = subst IsSound (sym same) sound
 sound_edits [] (frame ∷ frames) old new replied sound = absurd replied
 sound_edits (edit ∷ edits) [] old new replied sound = absurd replied

@@ -11,7 +11,8 @@ pub edit_syncs : (edits : List Edit) (from to : ℕ) → to ≤ from + 4 → (ed
 edit_syncs [] from to few none = omega (arith, none refl)
 edit_syncs (edit ∷ edits) from to few none = omega (arith, few)
 
-pub text_syncs : (text : List ℕ) (from to : ℕ) → 0 < length text → to ≤ from + 4 * length (edit_of (Some text)) → to ≤ from + 4 * length (edits_of (unless_empty (Some text)))
+pub text_syncs : (text : List ℕ) (from to : ℕ) → 0 < length text → to ≤ from + 4 * length (edit_of (Some text))
+    → to ≤ from + 4 * length (edits_of (unless_empty (Some text)))
 text_syncs text from to some few =
     let P : List (Option (List ℕ)) → Type 0 = λ l. to ≤ from + 4 * length (edits_of l) in
     let E : List Edit → Type 0 = λ e. to ≤ from + 4 * length e in

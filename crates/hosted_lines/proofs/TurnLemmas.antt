@@ -28,7 +28,8 @@ turn_none at = record {
 }
 
 -- the lines of both
-pub split_both : (ahead lines more first mid second behind : List (Option (List ℕ))) → ahead ++ lines ≡ first ++ mid → mid ++ more ≡ second ++ behind → ahead ++ (lines ++ more) ≡ (first ++ second) ++ behind
+pub split_both : (ahead lines more first mid second behind : List (Option (List ℕ))) → ahead ++ lines ≡ first ++ mid
+    → mid ++ more ≡ second ++ behind → ahead ++ (lines ++ more) ≡ (first ++ second) ++ behind
 split_both ahead lines more first mid second behind one two =
     sym (append_assoc ahead lines more)
     ∙ ap (λ l. l ++ more) one
@@ -37,20 +38,24 @@ split_both ahead lines more first mid second behind one two =
     ∙ sym (append_assoc first second behind)
 
 -- the groups of both
-groups_then : (old mid new : Hosted) (lines more : List (Option (List ℕ))) (p q : ℕ) (text later : List ℕ) (one : Turn old lines p text mid) (two : Turn mid more q later new) → GroupsBy (lines_in (one.events ++ two.events)) (groups_in (one.events ++ two.events)) (p + q)
+groups_then : (old mid new : Hosted) (lines more : List (Option (List ℕ))) (p q : ℕ) (text later : List ℕ) (one : Turn old lines p text mid)
+    (two : Turn mid more q later new) → GroupsBy (lines_in (one.events ++ two.events)) (groups_in (one.events ++ two.events)) (p + q)
 groups_then old mid new lines more p q text later one two =
     let L : List (Option (List ℕ)) → Type 0 = λ l. GroupsBy l (groups_in one.events + groups_in two.events) (p + q) in
     let N : ℕ → Type 0 = λ n. GroupsBy (lines_in (one.events ++ two.events)) n (p + q) in
     subst N (sym (groups_joined one.events two.events))
-    (subst L (sym (lines_joined one.events two.events)) (by_then (lines_in one.events) (lines_in two.events) (groups_in one.events) (groups_in two.events) p q one.groups two.groups))
+    (subst L (sym (lines_joined one.events two.events))
+    (by_then (lines_in one.events) (lines_in two.events) (groups_in one.events) (groups_in two.events) p q one.groups two.groups))
 
-pub turn_then : (old mid new : Hosted) (lines more : List (Option (List ℕ))) (p q : ℕ) (text later : List ℕ) → Turn old lines p text mid → Turn mid more q later new → Turn old (lines ++ more) (p + q) (text ++ later) new
+pub turn_then : (old mid new : Hosted) (lines more : List (Option (List ℕ))) (p q : ℕ) (text later : List ℕ) → Turn old lines p text mid
+    → Turn mid more q later new → Turn old (lines ++ more) (p + q) (text ++ later) new
 turn_then old mid new lines more p q text later one two = record {
   events = one.events ++ two.events;
   split = split_both old.ahead lines more (lines_in one.events) mid.ahead (lines_in two.events) new.ahead one.split two.split
       ∙ ap (λ l. l ++ new.ahead) (sym (lines_joined one.events two.events));
   frames = one.frames ++ two.frames;
-  happened = row_then HappensFor (counted_of old) (counted_of mid) (counted_of new) one.events two.events one.frames two.frames one.happened two.happened;
+  happened = row_then HappensFor (counted_of old) (counted_of mid)
+      (counted_of new) one.events two.events one.frames two.frames one.happened two.happened;
   groups = groups_then old mid new lines more p q text later one two;
   text_is = ap (λ t. t ++ later) one.text_is ∙ ap (λ t. spelled one.frames ++ t) two.text_is ∙ sym (spelled_more one.frames two.frames);
   sent_is = sent_more text later old.sent mid.sent new.sent one.sent_is two.sent_is;
@@ -62,7 +67,8 @@ pauses_more (Line at line) later = omega arith
 pauses_more Pause later = omega arith
 pauses_more End later = omega arith
 
-pub turned : (given : List Given) (old : Hosted) (text : List ℕ) (new : Hosted) → Carries Does old given text new → Turn old (lines_all given) (pauses given) text new
+pub turned : (given : List Given) (old : Hosted) (text : List ℕ) (new : Hosted) → Carries Does old given text new
+    → Turn old (lines_all given) (pauses given) text new
 turned [] old text new all =
     let T : List ℕ → Type 0 = λ t. Turn old [] 0 t new in
     let N : Hosted → Type 0 = λ h. Turn old [] 0 [] h in
@@ -70,10 +76,13 @@ turned [] old text new all =
 turned (it ∷ later) old text new all =
     let T : List ℕ → Type 0 = λ t. Turn old (lines_of it ++ lines_all later) (pauses (it ∷ later)) t new in
     let N : ℕ → Type 0 = λ n. Turn old (lines_of it ++ lines_all later) n (all.first ++ all.more) new in
-    subst T (sym all.texts) (subst N (pauses_more it later) (turn_then old all.between new (lines_of it) (lines_all later) (pauses_of it) (pauses later) all.first all.more all.does.0 (turned later all.between all.more new all.others)))
+    subst T (sym all.texts) (subst N (pauses_more it later)
+    (turn_then old all.between new (lines_of it) (lines_all later) (pauses_of it) (pauses later) all.first all.more all.does.0
+    (turned later all.between all.more new all.others)))
 
 -- behind a pause nothing is kept back
-pub paused : (given : List Given) (old : Hosted) (text : List ℕ) (new : Hosted) → EndsPaused given → Carries Does old given text new → new.ahead ≡ []
+pub paused : (given : List Given) (old : Hosted) (text : List ℕ) (new : Hosted) → EndsPaused given → Carries Does old given text new
+    → new.ahead ≡ []
 paused given old text new p all =
     let C : List Given → Type 0 = λ l. Carries Does old l text new in
     let both = carries_both Does p.earlier (Pause ∷ []) old text new (subst C p.given_are all) in
@@ -84,7 +93,8 @@ none_both [] rest none = none
 none_both (line ∷ front) rest none = absurd (cc (none))
 
 -- nor behind the end that comes then
-pub ended : (earlier given : List Given) (old : Hosted) (text : List ℕ) (new : Hosted) → EndsPaused earlier → given ≡ earlier ++ End ∷ [] → Carries Does old given text new → new.ahead ≡ []
+pub ended : (earlier given : List Given) (old : Hosted) (text : List ℕ) (new : Hosted) → EndsPaused earlier → given ≡ earlier ++ End ∷ []
+    → Carries Does old given text new → new.ahead ≡ []
 ended earlier given old text new p is all =
     let C : List Given → Type 0 = λ l. Carries Does old l text new in
     let both = carries_both Does earlier (End ∷ []) old text new (subst C is all) in

@@ -1,5 +1,6 @@
 -- What calls of a host are for its work on lines.
-use Rattle.std.proofs.Common.{◌≡◌, ◌∙◌, ℕ, List, [], ◌∷◌, ◌++◌, length, Option, None, Some, Result, Ok, Err, IfSome, refl, ap, sym, subst, inl, arith}
+use Rattle.std.proofs.Common.{◌≡◌, ◌∙◌, ℕ, List, [], ◌∷◌, ◌++◌, length, Option, None, Some, Result, Ok, Err, IfSome, refl, ap, sym, subst}
+use Rattle.std.proofs.Common.{inl, arith}
 use Rattle.std.specs.Prelude.{OnOk, IfErr}
 use Rattle.std.proofs.lemmas.List.{append-nil}
 use Rattle.block_disk.specs.View.{View, sent_now}
@@ -28,15 +29,18 @@ use Rattle.hosted_lines.proofs.CountLemmas.{by_fewer, by_none}
 use Rattle.hosted_lines.proofs.HostLemmas.{begun_none}
 
 -- what holds of the book and the sessions
-pub sound_of : {hosted : Hosted} {edits : List Edit} {told : Type 0} {view : View} {held : Held} {before : Option (List ℕ)} → IsHosted hosted edits told view held before → IsSound (state_of hosted.book hosted.total held.sessions)
-sound_of {hosted} {edits} {told} {view} {held} {before} is = let S : Held → Type 0 = λ h. IsSound (state_of hosted.book hosted.total h.sessions) in subst S is.held_is is.sound
+pub sound_of : {hosted : Hosted} {edits : List Edit} {told : Type 0} {view : View} {held : Held} {before : Option (List ℕ)}
+    → IsHosted hosted edits told view held before → IsSound (state_of hosted.book hosted.total held.sessions)
+sound_of {hosted} {edits} {told} {view} {held} {before} is = let S : Held
+    → Type 0 = λ h. IsSound (state_of hosted.book hosted.total h.sessions) in subst S is.held_is is.sound
 
 -- what stands, in the words of what it stands for
 abbrev pub hosted_at : ℕ → List Series → Held → ℕ → ℕ → List (Option (List ℕ)) → Option (List ℕ) → Hosted
 hosted_at total book held reads syncs ahead sent =
     record { total = total; book = book; held = held; reads = reads; syncs = syncs; ahead = ahead; sent = sent }
 
-hosted_is : (h : Hosted) (held : Held) (reads syncs : ℕ) (sent : Option (List ℕ)) → h.held ≡ held → h.reads ≡ reads → h.syncs ≡ syncs → h.sent ≡ sent → h ≡ hosted_at h.total h.book held reads syncs h.ahead sent
+hosted_is : (h : Hosted) (held : Held) (reads syncs : ℕ) (sent : Option (List ℕ)) → h.held ≡ held → h.reads ≡ reads → h.syncs ≡ syncs
+    → h.sent ≡ sent → h ≡ hosted_at h.total h.book held reads syncs h.ahead sent
 hosted_is h held reads syncs sent one two three four = λ i. hosted_at h.total h.book (one i) (two i) (three i) h.ahead (four i)
 
 pub none_kept : (it : Given) → KeepsNone it []
@@ -44,7 +48,8 @@ none_kept (Line at line) = tt
 none_kept Pause = refl
 none_kept EndOf = tt
 
-module _ (hosted : Hosted) (edits : List Edit) (told : Type 0) (view : View) (held : Held) (before : Option (List ℕ)) (is : IsHosted hosted edits told view held before) where
+module _ (hosted : Hosted) (edits : List Edit) (told : Type 0) (view : View) (held : Held) (before : Option (List ℕ))
+    (is : IsHosted hosted edits told view held before) where
   abbrev here : Hosted
   here = hosted_at hosted.total hosted.book held view.reads view.syncs hosted.ahead before
 
@@ -54,7 +59,9 @@ module _ (hosted : Hosted) (edits : List Edit) (told : Type 0) (view : View) (he
   -- ---- calls that settle what was kept back, and what is given behind it
 
   module _ (it : Given) (view' : View) (held' : Held) (now : Option (List ℕ)) where
-    done_here : (told' : Type 0) → told' → held'.pending ≡ [] → GroupsBy (hosted.ahead ++ lines_of it) 1 (pauses_of it) → {T : Type 0} (v : T) → DoesHost {T = T} 1 (hosted.ahead ++ lines_of it) hosted.total (held_with hosted.total hosted.book held) (Ok v) view view' held' before now → DoesOne Does (λ h. IsHosted h [] told' view' held' now) here it before now
+    done_here : (told' : Type 0) → told' → held'.pending ≡ [] → GroupsBy (hosted.ahead ++ lines_of it) 1 (pauses_of it)
+        → {T : Type 0} (v : T) → DoesHost {T = T} 1 (hosted.ahead ++ lines_of it) hosted.total (held_with hosted.total hosted.book held)
+        (Ok v) view view' held' before now → DoesOne Does (λ h. IsHosted h [] told' view' held' now) here it before now
     done_here told' holds idle by {T} v does =
         let d = does.done in
         record {
@@ -66,7 +73,8 @@ module _ (hosted : Hosted) (edits : List Edit) (told : Type 0) (view : View) (he
               split = sym d.lines_are ∙ sym (append-nil (lines_in d.events));
               frames = d.frames;
               happened = d.happened;
-              groups = by_fewer (hosted.ahead ++ lines_of it) (lines_in d.events) 1 (groups_in d.events) (pauses_of it) d.lines_are d.few by;
+              groups = by_fewer (hosted.ahead ++ lines_of it) (lines_in d.events) 1 (groups_in d.events)
+                  (pauses_of it) d.lines_are d.few by;
               text_is = refl;
               sent_is = d.sent;
               total_is = refl;
@@ -87,24 +95,36 @@ module _ (hosted : Hosted) (edits : List Edit) (told : Type 0) (view : View) (he
           sent = d.sent;
         }
 
-    pub host_does : (told' : Type 0) → told' → (edits' : List Edit) → edits' ≡ [] → GroupsBy (hosted.ahead ++ lines_of it) 1 (pauses_of it) → {T : Type 0} (result : Result T End) → OnOk result (held'.pending ≡ []) → DoesHost {T = T} 1 (hosted.ahead ++ lines_of it) hosted.total (held_with hosted.total hosted.book held) result view view' held' before now → OnOk result (DoesOne Does (λ h. IsHosted h edits' told' view' held' now) hosted it before now)
+    pub host_does : (told' : Type 0) → told' → (edits' : List Edit) → edits' ≡ [] → GroupsBy (hosted.ahead ++ lines_of it) 1 (pauses_of it)
+        → {T : Type 0} (result : Result T End) → OnOk result (held'.pending ≡ [])
+        → DoesHost {T = T} 1 (hosted.ahead ++ lines_of it) hosted.total
+        (held_with hosted.total hosted.book held) result view view' held' before now
+        → OnOk result (DoesOne Does (λ h. IsHosted h edits' told' view' held' now) hosted it before now)
     host_does told' holds edits' none by {T} (Ok v) idle does =
         let P : Hosted → Type 0 = λ h. DoesOne Does (λ x. IsHosted x edits' told' view' held' now) h it before now in
         let E : List Edit → Type 0 = λ l. DoesOne Does (λ x. IsHosted x l told' view' held' now) here it before now in
         subst P (sym here_is) (subst E (sym none) (done_here told' holds idle by v does))
     host_does told' holds edits' none by {T} (Err end) idle does = tt
 
-    pub host_stops : {T : Type 0} (result : Result T End) → DoesHost {T = T} 1 (hosted.ahead ++ lines_of it) hosted.total (held_with hosted.total hosted.book held) result view view' held' before now → IfErr result (λ end. Stops hosted it view'.image now view'.reads view'.syncs end)
+    pub host_stops : {T : Type 0} (result : Result T End)
+        → DoesHost {T = T} 1 (hosted.ahead ++ lines_of it) hosted.total
+        (held_with hosted.total hosted.book held) result view view' held' before now
+        → IfErr result (λ end. Stops hosted it view'.image now view'.reads view'.syncs end)
     host_stops {T} (Ok v) does = tt
     host_stops {T} (Err end) does =
         let P : Hosted → Type 0 = λ h. Stops h it view'.image now view'.reads view'.syncs end in
         subst P (sym here_is) (record { why = does.stops; cost = does.cost })
 
-    moments_here : (o : Option (List ℕ)) → AreTold o → IfSome o (λ bytes. Through view view' (HostMoment (hosted.ahead ++ lines_of it) hosted.total (held_with hosted.total hosted.book held) (sent_now view))) → runs.Through view view' (Leaves here it (sent_now view))
+    moments_here : (o : Option (List ℕ)) → AreTold o
+        → IfSome o (λ bytes. Through view view' (HostMoment (hosted.ahead ++ lines_of it) hosted.total
+        (held_with hosted.total hosted.book held) (sent_now view))) → runs.Through view view' (Leaves here it (sent_now view))
     moments_here None lasts m = absurd lasts
     moments_here (Some bytes) lasts m = record { goes = m.goes; here = m.here }
 
-    pub host_leaves : AreTold hosted.sent → {T : Type 0} (result : Result T End) → DoesHost {T = T} 1 (hosted.ahead ++ lines_of it) hosted.total (held_with hosted.total hosted.book held) result view view' held' before now → runs.Through view view' (Leaves hosted it (sent_now view))
+    pub host_leaves : AreTold hosted.sent → {T : Type 0} (result : Result T End)
+        → DoesHost {T = T} 1 (hosted.ahead ++ lines_of it) hosted.total
+        (held_with hosted.total hosted.book held) result view view' held' before now
+        → runs.Through view view' (Leaves hosted it (sent_now view))
     host_leaves lasts {T} result does =
         let P : Hosted → Type 0 = λ h. runs.Through view view' (Leaves h it (sent_now view)) in
         subst P (sym here_is) (moments_here before (subst AreTold is.sent_is lasts) does.moments)
@@ -112,7 +132,8 @@ module _ (hosted : Hosted) (edits : List Edit) (told : Type 0) (view : View) (he
   -- ---- what is given is kept back, or is nothing
 
   module _ (it : Given) where
-    turn_kept : (ahead : List (Option (List ℕ))) → hosted.ahead ++ lines_of it ≡ ahead → Turn here (lines_of it) (pauses_of it) [] (hosted_at hosted.total hosted.book held view.reads view.syncs ahead before)
+    turn_kept : (ahead : List (Option (List ℕ))) → hosted.ahead ++ lines_of it ≡ ahead
+        → Turn here (lines_of it) (pauses_of it) [] (hosted_at hosted.total hosted.book held view.reads view.syncs ahead before)
     turn_kept ahead same = record {
       events = [];
       split = same;
@@ -124,7 +145,8 @@ module _ (hosted : Hosted) (edits : List Edit) (told : Type 0) (view : View) (he
       total_is = refl;
     }
 
-    kept_here : (ahead : List (Option (List ℕ))) (edits' : List Edit) → hosted.ahead ++ lines_of it ≡ ahead → KeepsNone it ahead → SpellEdits ahead edits' → DoesOne Does (λ h. IsHosted h edits' told view held before) here it before before
+    kept_here : (ahead : List (Option (List ℕ))) (edits' : List Edit) → hosted.ahead ++ lines_of it ≡ ahead → KeepsNone it ahead
+        → SpellEdits ahead edits' → DoesOne Does (λ h. IsHosted h edits' told view held before) here it before before
     kept_here ahead edits' same none spell = record {
       text = [];
       behind = hosted_at hosted.total hosted.book held view.reads view.syncs ahead before;
@@ -146,7 +168,8 @@ module _ (hosted : Hosted) (edits : List Edit) (told : Type 0) (view : View) (he
         idle_here : held.pending ≡ []
         idle_here = sym (ap (λ (h : Held). h.pending) is.held_is) ∙ is.idle
 
-    pub host_keeps : (ahead : List (Option (List ℕ))) (edits' : List Edit) → hosted.ahead ++ lines_of it ≡ ahead → KeepsNone it ahead → SpellEdits ahead edits' → DoesOne Does (λ h. IsHosted h edits' told view held before) hosted it before before
+    pub host_keeps : (ahead : List (Option (List ℕ))) (edits' : List Edit) → hosted.ahead ++ lines_of it ≡ ahead → KeepsNone it ahead
+        → SpellEdits ahead edits' → DoesOne Does (λ h. IsHosted h edits' told view held before) hosted it before before
     host_keeps ahead edits' same none spell =
         let P : Hosted → Type 0 = λ h. DoesOne Does (λ x. IsHosted x edits' told view held before) h it before before in
         subst P (sym here_is) (kept_here ahead edits' same none spell)

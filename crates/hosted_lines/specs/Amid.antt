@@ -11,7 +11,8 @@ use Rattle.series_book.specs.declared.one_series.Series.{Series}
 
 -- All frames so far were sent and all pushes made, the first of these lines asks for the step of a sweep, and the book is
 -- there that some first clears of it leave, which are at most 64.
-pub record IsAmidStep (IsThere : List Series → Type 0) (more : List Frame) (lines : List (Option (List ℕ))) (state : LiveState) : Type 0 where
+pub record IsAmidStep (IsThere : List Series → Type 0) (more : List Frame) (lines : List (Option (List ℕ)))
+    (state : LiveState) : Type 0 where
   pub none : more ≡ []
   pub idle : state.pending ≡ []
   pub line : List ℕ

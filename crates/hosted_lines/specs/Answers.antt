@@ -71,7 +71,8 @@ abbrev pub AreSentBy : MayAnswerBy → FollowedBy → List Event → List ℕ �
 AreSentBy May after [] old [] new = new ≡ old
 AreSentBy May after [] old (frame ∷ frames) new = ⊥
 AreSentBy May after (event ∷ events) old [] new = ⊥
-AreSentBy May after (answer line ∷ events) old (frame ∷ frames) new = May line frame × AreSentBy May after events (after line frame old) frames new
+AreSentBy May after (answer line ∷ events) old (frame ∷ frames) new = May line frame
+    × AreSentBy May after events (after line frame old) frames new
 AreSentBy May after (push ∷ events) old (frame ∷ frames) new = ShowsOneOf old frame × AreSentBy May after events old frames new
 
 -- the line that is answered at each event; a push has none
@@ -88,7 +89,8 @@ ShownLast was events frames n id = LastShown was (lines_at events) frames n id
 -- This text is the spellings of frames that answer the lines, with pushes to the sessions that are followed then. The fields of
 -- each meet their rules, and it names sessions that are open by those before it. Behind them all just these are open, and the
 -- last view of each is of a series that they showed.
-pub record Answers (May : MayAnswerBy) (after : FollowedBy) (lines : List (Option (List ℕ))) (old new : Watched) (text : List ℕ) : Type 0 where
+pub record Answers (May : MayAnswerBy) (after : FollowedBy) (lines : List (Option (List ℕ))) (old new : Watched)
+    (text : List ℕ) : Type 0 where
   pub events : List Event
   pub lines_are : lines_in events ≡ lines
   pub frames : List Frame
@@ -100,7 +102,8 @@ pub record Answers (May : MayAnswerBy) (after : FollowedBy) (lines : List (Optio
   pub text_is : text ≡ spelled frames
 
 -- such a text was sent
-pub record Sends (May : MayAnswerBy) (after : FollowedBy) (lines : List (Option (List ℕ))) (old new : Watched) (before now : Option (List ℕ)) : Type 0 where
+pub record Sends (May : MayAnswerBy) (after : FollowedBy) (lines : List (Option (List ℕ))) (old new : Watched)
+    (before now : Option (List ℕ)) : Type 0 where
   pub text : List ℕ
   pub answers : Answers May after lines old new text
   pub sent : now ≡ sent_after text before
@@ -116,11 +119,14 @@ pub record SendsAnswers (May : MayAnswerBy) (after : FollowedBy) (input : List �
   pub named : NameOpened frames
   pub sent : now ≡ sent_after (spelled frames) before
 
-module _ {P : Type 0} {g : Ghosts P} {h : StepperGhosts (ServiceStepper P g) ServiceError} {beside : StreamGhosts (ServiceStepper P g)} where
-  -- the open sessions of a live service, and the followed ones
-  abbrev pub watched : Live (ServiceStepper P g) ServiceError h beside → Watched
-  watched it = record { sessions = shown.sessions (its.service it); followed = follows.followed it }
+module _ {P : Type 0} {g : Ghosts P} {h : StepperGhosts (ServiceStepper P g) ServiceError} {beside : StreamGhosts (ServiceStepper P g)}
+  where
+    -- the open sessions of a live service, and the followed ones
+    abbrev pub watched : Live (ServiceStepper P g) ServiceError h beside → Watched
+    watched it = record { sessions = shown.sessions (its.service it); followed = follows.followed it }
 
-  -- what a call sends from one moment to another
-  abbrev pub SendsFor : streams.Ghosts P → MayAnswerBy → FollowedBy → List (Option (List ℕ)) → Live (ServiceStepper P g) ServiceError h beside → Live (ServiceStepper P g) ServiceError h beside → Type 0
-  SendsFor told May after lines old new = Sends May after lines (watched old) (watched new) (told.sent (pages old)) (told.sent (pages new))
+    -- what a call sends from one moment to another
+    abbrev pub SendsFor : streams.Ghosts P → MayAnswerBy → FollowedBy → List (Option (List ℕ))
+        → Live (ServiceStepper P g) ServiceError h beside → Live (ServiceStepper P g) ServiceError h beside → Type 0
+    SendsFor told May after lines old new = Sends May after lines (watched old) (watched new) (told.sent (pages old))
+        (told.sent (pages new))

@@ -99,21 +99,25 @@ OfDamaged IsSo (DamagedPage page) = IsSo page
 OfDamaged IsSo end = ⊤
 
 -- the same of the pages of a disk as it is then, where the input is told
-abbrev pub BlamesOnDisk : MayAnswerBy → FollowedBy → BlamesBy → ℕ → View → Option (List ℕ) → Option (List ℕ) → Option (List ℕ) → End → Type 0
+abbrev pub BlamesOnDisk : MayAnswerBy → FollowedBy → BlamesBy → ℕ → View → Option (List ℕ) → Option (List ℕ) → Option (List ℕ) → End
+    → Type 0
 BlamesOnDisk May after By count disk input before now end = OfDamaged (λ page.
     IfSome input (λ bytes. BlamesNext May after By bytes before now (Honest disk) count (book_pages count disk.image) page)) end
 
-module _ {P : Type 0} {g : Ghosts P} {h : StepperGhosts (ServiceStepper P g) ServiceError} {beside : StreamGhosts (ServiceStepper P g)} where
-  -- what a call did for lines, where its end calls a page damaged
-  abbrev pub BlamesFor : streams.Ghosts P → MayAnswerBy → FollowedBy → BlamesBy → List (Option (List ℕ)) → Live (ServiceStepper P g) ServiceError h beside
-      → Live (ServiceStepper P g) ServiceError h beside → End → Type 0
-  BlamesFor told May after By lines old new end =
-      OfDamaged (BlamesFirst May after By lines (watched old) (told.sent (pages old)) (told.sent (pages new)) (shown.IsTold (its.service new))
-      (its.view new).size (its.view new).image) end
+module _ {P : Type 0} {g : Ghosts P} {h : StepperGhosts (ServiceStepper P g) ServiceError} {beside : StreamGhosts (ServiceStepper P g)}
+  where
+    -- what a call did for lines, where its end calls a page damaged
+    abbrev pub BlamesFor : streams.Ghosts P → MayAnswerBy → FollowedBy → BlamesBy → List (Option (List ℕ))
+        → Live (ServiceStepper P g) ServiceError h beside
+        → Live (ServiceStepper P g) ServiceError h beside → End → Type 0
+    BlamesFor told May after By lines old new end =
+        OfDamaged (BlamesFirst May after By lines (watched old) (told.sent (pages old)) (told.sent (pages new))
+        (shown.IsTold (its.service new))
+        (its.view new).size (its.view new).image) end
 
-  -- and for the lines of the input, where that is told
-  abbrev pub BlamesInput : streams.Ghosts P → MayAnswerBy → FollowedBy → BlamesBy → Live (ServiceStepper P g) ServiceError h beside
-      → Live (ServiceStepper P g) ServiceError h beside → End → Type 0
-  BlamesInput at May after By old new end = OfDamaged (λ page. IfSome (at.left (pages old)) (λ input.
-      BlamesFirst May after By (told input) (watched old) (at.sent (pages old)) (at.sent (pages new)) (shown.IsTold (its.service new))
-      (its.view new).size (its.view new).image page)) end
+    -- and for the lines of the input, where that is told
+    abbrev pub BlamesInput : streams.Ghosts P → MayAnswerBy → FollowedBy → BlamesBy → Live (ServiceStepper P g) ServiceError h beside
+        → Live (ServiceStepper P g) ServiceError h beside → End → Type 0
+    BlamesInput at May after By old new end = OfDamaged (λ page. IfSome (at.left (pages old)) (λ input.
+        BlamesFirst May after By (told input) (watched old) (at.sent (pages old)) (at.sent (pages new)) (shown.IsTold (its.service new))
+        (its.view new).size (its.view new).image page)) end

@@ -60,7 +60,8 @@ abbrev pub held_with : ℕ → List Series → Held → LiveState
 held_with total book held = live_of (state_of book total held.sessions) held.followed held.pending
 
 -- The lines are answered, the pages stand for the book that this leaves, and the spellings of all frames were sent.
-pub record LinesDone (lines : List (Option (List ℕ))) (total : ℕ) (old : LiveState) (image : Image) (held : Held) (from to : ℕ) (before now : Option (List ℕ)) : Type 0 where
+pub record LinesDone (lines : List (Option (List ℕ))) (total : ℕ) (old : LiveState) (image : Image) (held : Held) (from to : ℕ)
+    (before now : Option (List ℕ)) : Type 0 where
   pub frames : List Frame
   pub book : List Series
   pub stands : StandsForBook image total book
@@ -74,7 +75,8 @@ abbrev pub AreFirst : List (Option (List ℕ)) → List (Option (List ℕ)) → 
 AreFirst lines first = (first ≡ []) ⊎ (first ≡ lines)
 
 -- of the last frame a part was sent
-pub record LinesCut (lines : List (Option (List ℕ))) (total : ℕ) (old : LiveState) (image : Image) (before now : Option (List ℕ)) : Type 0 where
+pub record LinesCut (lines : List (Option (List ℕ))) (total : ℕ) (old : LiveState) (image : Image)
+    (before now : Option (List ℕ)) : Type 0 where
   pub first : List (Option (List ℕ))
   pub are_first : AreFirst lines first
   pub shown : List Frame
@@ -87,7 +89,8 @@ pub record LinesCut (lines : List (Option (List ℕ))) (total : ℕ) (old : Live
   pub part : PartSent (spelling last) between now
 
 -- the spellings of all frames were sent, or of all but the last one
-pub record LinesSome (lines : List (Option (List ℕ))) (total : ℕ) (old : LiveState) (image : Image) (before now : Option (List ℕ)) : Type 0 where
+pub record LinesSome (lines : List (Option (List ℕ))) (total : ℕ) (old : LiveState) (image : Image)
+    (before now : Option (List ℕ)) : Type 0 where
   pub first : List (Option (List ℕ))
   pub are_first : AreFirst lines first
   pub shown : List Frame
@@ -140,7 +143,8 @@ pub record LinesRead (lines : List (Option (List ℕ))) (old : LiveState) (from 
       ⊎ ReadsPush state.pending state.state count to)
 
 -- what a call does that answers these lines, and makes pushes
-pub record DoesLines {T : Type 0} (lines : List (Option (List ℕ))) (total : ℕ) (old : LiveState) (result : Result T End) (view view' : View) (held : Held) (before now : Option (List ℕ)) : Type 0 where
+pub record DoesLines {T : Type 0} (lines : List (Option (List ℕ))) (total : ℕ) (old : LiveState) (result : Result T End) (view view' : View)
+    (held : Held) (before now : Option (List ℕ)) : Type 0 where
   pub done : OnOk result (LinesDone lines total old view'.image held view.reads view'.reads before now)
   pub stops : IfErr result (LinesStop lines total old view'.image before now)
   pub moments : IfSome before (λ bytes. Through view view' (LinesMoment lines total old (sent_now view)))
@@ -185,19 +189,22 @@ IsCause (DamagedPage page) old new = (page < new.view.size) × (new.told → IsB
 IsCause InputTooLong old new = ⊤
 IsCause end old new = ⊥
 
-module _ {P : Type 0} {g : Ghosts P} {h : StepperGhosts (ServiceStepper P g) ServiceError} {beside : StreamGhosts (ServiceStepper P g)} where
-  abbrev pub held_by : Live (ServiceStepper P g) ServiceError h beside → Held
-  held_by it = record { sessions = shown.sessions (its.service it); followed = live.followed it; pending = live.pending it }
+module _ {P : Type 0} {g : Ghosts P} {h : StepperGhosts (ServiceStepper P g) ServiceError} {beside : StreamGhosts (ServiceStepper P g)}
+  where
+    abbrev pub held_by : Live (ServiceStepper P g) ServiceError h beside → Held
+    held_by it = record { sessions = shown.sessions (its.service it); followed = live.followed it; pending = live.pending it }
 
-  abbrev pub side_of : streams.Ghosts P → Live (ServiceStepper P g) ServiceError h beside → Side
-  side_of told it = record {
-    told = shown.IsTold (its.service it);
-    view = its.view it;
-    under = shown.under (its.service it);
-    read_faults = told.read_faults (pages it);
-    send_faults = told.send_faults (pages it);
-  }
+    abbrev pub side_of : streams.Ghosts P → Live (ServiceStepper P g) ServiceError h beside → Side
+    side_of told it = record {
+      told = shown.IsTold (its.service it);
+      view = its.view it;
+      under = shown.under (its.service it);
+      read_faults = told.read_faults (pages it);
+      send_faults = told.send_faults (pages it);
+    }
 
-  -- what a call does from one moment to another
-  abbrev pub DoesFor : {T : Type 0} → streams.Ghosts P → List (Option (List ℕ)) → ℕ → List Series → Result T End → Live (ServiceStepper P g) ServiceError h beside → Live (ServiceStepper P g) ServiceError h beside → Type 0
-  DoesFor told lines total book result old new = DoesLines lines total (its.state old total book) result (its.view old) (its.view new) (held_by new) (told.sent (pages old)) (told.sent (pages new))
+    -- what a call does from one moment to another
+    abbrev pub DoesFor : {T : Type 0} → streams.Ghosts P → List (Option (List ℕ)) → ℕ → List Series → Result T End
+        → Live (ServiceStepper P g) ServiceError h beside → Live (ServiceStepper P g) ServiceError h beside → Type 0
+    DoesFor told lines total book result old new = DoesLines lines total (its.state old total book) result (its.view old) (its.view new)
+        (held_by new) (told.sent (pages old)) (told.sent (pages new))

@@ -18,7 +18,15 @@ abbrev pub IsBeside : Side → Type 0
 IsBeside side = AreBeside side.view side.read_faults side.send_faults
 
 pub goes_nowhere : (at : Side) → Goes at at
-goes_nowhere at = record { is_told = λ t. t; was_told = λ t. t; size = refl; faults = omega arith; goes_on = goes_none at.under; reads = omega arith; sends = omega arith }
+goes_nowhere at = record {
+  is_told = λ t. t;
+  was_told = λ t. t;
+  size = refl;
+  faults = omega arith;
+  goes_on = goes_none at.under;
+  reads = omega arith;
+  sends = omega arith;
+}
 
 pub goes_further : (old mid new : Side) → Goes old mid → Goes mid new → Goes old new
 goes_further old mid new first second = record {
@@ -32,7 +40,8 @@ goes_further old mid new first second = record {
 }
 
 -- an answer, and a push
-pub goes_step : (old new : Side) → IsBeside old → IsBeside new → Steps old.told new.told old.view new.view → GoesOn old.under new.under → Goes old new
+pub goes_step : (old new : Side) → IsBeside old → IsBeside new → Steps old.told new.told old.view new.view → GoesOn old.under new.under
+    → Goes old new
 goes_step old new was are steps on = record {
   is_told = steps.told;
   was_told = steps.was_told;
@@ -44,21 +53,35 @@ goes_step old new was are steps on = record {
 }
 
 -- takes and sends
-pub goes_streams : (old new : Side) → DiskKept old.view new.view → (old.told → new.told) → (new.told → old.told) → GoesOn old.under new.under → old.read_faults ≤ new.read_faults → old.send_faults ≤ new.send_faults → Goes old new
-goes_streams old new kept told was_told on reads sends = record { is_told = told; was_told = was_told; size = kept.size; faults = omega (arith, kept.faults); goes_on = on; reads = reads; sends = sends }
+pub goes_streams : (old new : Side) → DiskKept old.view new.view → (old.told → new.told) → (new.told → old.told)
+    → GoesOn old.under new.under → old.read_faults ≤ new.read_faults → old.send_faults ≤ new.send_faults → Goes old new
+goes_streams old new kept told was_told on reads sends = record {
+  is_told = told;
+  was_told = was_told;
+  size = kept.size;
+  faults = omega (arith, kept.faults);
+  goes_on = on;
+  reads = reads;
+  sends = sends;
+}
 
 -- why a later call ended is why all ended
-pub cause_later : (old mid new : Side) (end : End) → IsBeside old → IsBeside mid → CountsFault None old.view mid.view → IsCause end mid new → IsCause end old new
+pub cause_later : (old mid new : Side) (end : End) → IsBeside old → IsBeside mid → CountsFault None old.view mid.view → IsCause end mid new
+    → IsCause end old new
 cause_later old mid new NoMemory was are quiet is = tt
-cause_later old mid new ReadFault was are quiet is = risen_since old.read_faults mid.read_faults new.read_faults (sym are.reads_are ∙ takes_stay old.view mid.view quiet ∙ was.reads_are) is
-cause_later old mid new SendFault was are quiet is = risen_since old.send_faults mid.send_faults new.send_faults (sym are.sends_are ∙ sends_stay old.view mid.view quiet ∙ was.sends_are) is
-cause_later old mid new DiskFault was are quiet is = risen_since old.view.faults mid.view.faults new.view.faults (disk_stays old.view mid.view quiet) is
+cause_later old mid new ReadFault was are quiet is = risen_since old.read_faults mid.read_faults new.read_faults (sym are.reads_are
+    ∙ takes_stay old.view mid.view quiet ∙ was.reads_are) is
+cause_later old mid new SendFault was are quiet is = risen_since old.send_faults mid.send_faults new.send_faults (sym are.sends_are
+    ∙ sends_stay old.view mid.view quiet ∙ was.sends_are) is
+cause_later old mid new DiskFault was are quiet is = risen_since old.view.faults mid.view.faults new.view.faults
+    (disk_stays old.view mid.view quiet) is
 cause_later old mid new (DamagedPage page) was are quiet is = is
 cause_later old mid new InputTooLong was are quiet is = tt
 cause_later old mid new end was are quiet is = absurd is
 
 -- so it is with the cause of a host
-pub host_cause_later : (old mid new : Side) (end : End) → IsBeside old → IsBeside mid → CountsFault None old.view mid.view → IsHostCause end mid new → IsHostCause end old new
+pub host_cause_later : (old mid new : Side) (end : End) → IsBeside old → IsBeside mid → CountsFault None old.view mid.view
+    → IsHostCause end mid new → IsHostCause end old new
 host_cause_later old mid new (DamagedPage page) was are quiet is = is
 host_cause_later old mid new NoMemory was are quiet is = tt
 host_cause_later old mid new ReadFault was are quiet is = cause_later old mid new ReadFault was are quiet is
@@ -73,6 +96,8 @@ host_cause_later old mid new end was are quiet is = absurd is
 abbrev pub held_of : List Session → List ℕ → List ℕ → Held
 held_of sessions followed pending = record { sessions = sessions; followed = followed; pending = pending }
 
-pub held_same : (sessions sessions' : List Session) (followed followed' pending pending' : List ℕ) → sessions' ≡ sessions → followed' ≡ followed → pending' ≡ pending → held_of sessions' followed' pending' ≡ held_of sessions followed pending
+pub held_same : (sessions sessions' : List Session) (followed followed' pending pending' : List ℕ) → sessions' ≡ sessions
+    → followed' ≡ followed → pending' ≡ pending → held_of sessions' followed' pending' ≡ held_of sessions followed pending
 held_same sessions sessions' followed followed' pending pending' same same_followed same_pending =
-    ap (λ s. held_of s followed' pending') same ∙ ap (λ f. held_of sessions f pending') same_followed ∙ ap (λ p. held_of sessions followed p) same_pending
+    ap (λ s. held_of s followed' pending') same ∙ ap (λ f. held_of sessions f pending') same_followed
+    ∙ ap (λ p. held_of sessions followed p) same_pending

@@ -65,7 +65,8 @@ counted_with total book held reads syncs = record { live = held_with total book 
 
 -- All of them are answered, in at most so many groups, the pages stand for the book that this leaves, and the spellings of all
 -- frames were sent.
-pub record HostDone (groups : ℕ) (lines : List (Option (List ℕ))) (total : ℕ) (old : Counted) (image : Image) (held : Held) (reads syncs : ℕ) (before now : Option (List ℕ)) : Type 0 where
+pub record HostDone (groups : ℕ) (lines : List (Option (List ℕ))) (total : ℕ) (old : Counted) (image : Image) (held : Held)
+    (reads syncs : ℕ) (before now : Option (List ℕ)) : Type 0 where
   pub frames : List Frame
   pub book : List Series
   pub stands : StandsForBook image total book
@@ -78,7 +79,8 @@ pub record HostDone (groups : ℕ) (lines : List (Option (List ℕ))) (total : �
 
 -- Some first of them are. Of some frames, which are fewer than may be done ahead, and of one before them a part was sent, or
 -- none of them; the spellings of all others were sent.
-pub record HostCut (lines : List (Option (List ℕ))) (total : ℕ) (old : LiveState) (image : Image) (before now : Option (List ℕ)) : Type 0 where
+pub record HostCut (lines : List (Option (List ℕ))) (total : ℕ) (old : LiveState) (image : Image)
+    (before now : Option (List ℕ)) : Type 0 where
   pub shown : List Frame
   pub last : Frame
   pub more : List Frame
@@ -90,7 +92,8 @@ pub record HostCut (lines : List (Option (List ℕ))) (total : ℕ) (old : LiveS
   pub whole : between ≡ sent_after (spelled shown) before
   pub part : PartSent (spelling last) between now
 
-pub record HostSome (lines : List (Option (List ℕ))) (total : ℕ) (old : LiveState) (image : Image) (before now : Option (List ℕ)) : Type 0 where
+pub record HostSome (lines : List (Option (List ℕ))) (total : ℕ) (old : LiveState) (image : Image)
+    (before now : Option (List ℕ)) : Type 0 where
   pub shown : List Frame
   pub more : List Frame
   pub few : length more ≤ most_ahead
@@ -143,13 +146,18 @@ pub record HostCost (groups : ℕ) (lines : List (Option (List ℕ))) (old : Cou
   pub last : ((reads ≡ state.reads) × (syncs ≡ state.syncs)) ⊎ NextCosts rest state reads syncs
 
 -- what a call does that answers these lines in at most so many groups, and makes pushes
-pub record DoesHost {T : Type 0} (groups : ℕ) (lines : List (Option (List ℕ))) (total : ℕ) (old : LiveState) (result : Result T End) (view view' : View) (held : Held) (before now : Option (List ℕ)) : Type 0 where
-  pub done : OnOk result (HostDone groups lines total (record { live = old; reads = view.reads; syncs = view.syncs }) view'.image held view'.reads view'.syncs before now)
+pub record DoesHost {T : Type 0} (groups : ℕ) (lines : List (Option (List ℕ))) (total : ℕ) (old : LiveState) (result : Result T End)
+    (view view' : View) (held : Held) (before now : Option (List ℕ)) : Type 0 where
+  pub done : OnOk result (HostDone groups lines total
+      (record { live = old; reads = view.reads; syncs = view.syncs }) view'.image held view'.reads view'.syncs before now)
   pub stops : IfErr result (HostStop lines total old view'.image before now)
   pub moments : IfSome before (λ bytes. Through view view' (HostMoment lines total old (sent_now view)))
   pub cost : HostCost groups lines (record { live = old; reads = view.reads; syncs = view.syncs }) view'.reads view'.syncs
 
-module _ {P : Type 0} {g : Ghosts P} {h : StepperGhosts (ServiceStepper P g) ServiceError} {beside : StreamGhosts (ServiceStepper P g)} where
-  -- what a call does from one moment to another
-  abbrev pub HostsFor : {T : Type 0} → streams.Ghosts P → ℕ → List (Option (List ℕ)) → ℕ → List Series → Result T End → Live (ServiceStepper P g) ServiceError h beside → Live (ServiceStepper P g) ServiceError h beside → Type 0
-  HostsFor told groups lines total book result old new = DoesHost groups lines total (its.state old total book) result (its.view old) (its.view new) (held_by new) (told.sent (pages old)) (told.sent (pages new))
+module _ {P : Type 0} {g : Ghosts P} {h : StepperGhosts (ServiceStepper P g) ServiceError} {beside : StreamGhosts (ServiceStepper P g)}
+  where
+    -- what a call does from one moment to another
+    abbrev pub HostsFor : {T : Type 0} → streams.Ghosts P → ℕ → List (Option (List ℕ)) → ℕ → List Series → Result T End
+        → Live (ServiceStepper P g) ServiceError h beside → Live (ServiceStepper P g) ServiceError h beside → Type 0
+    HostsFor told groups lines total book result old new = DoesHost groups lines total (its.state old total book) result (its.view old)
+        (its.view new) (held_by new) (told.sent (pages old)) (told.sent (pages new))

@@ -27,7 +27,8 @@ pub data Event : Type 0 where
   push : Event
 
 -- one of them, and those behind it
-pub record OneThen {X : Type 0} (one : List Frame → X → X → Type 0) (others : X → List Frame → Type 0) (old : X) (frames : List Frame) : Type 0 where
+pub record OneThen {X : Type 0} (one : List Frame → X → X → Type 0) (others : X → List Frame
+    → Type 0) (old : X) (frames : List Frame) : Type 0 where
   pub first : List Frame
   pub between : X
   pub happens : one first old between

@@ -15,9 +15,11 @@ ReadsInTurn old [] [] new from to = (new ≡ old) × (to ≡ from)
 ReadsInTurn old [] (frame ∷ frames) new from to = ⊥
 ReadsInTurn old (event ∷ later) [] new from to = ⊥
 ReadsInTurn old (answer line ∷ later) (frame ∷ frames) new from to =
-    (between : LiveState) × (count : ℕ) × (old.pending ≡ []) × LiveReplied line frame old between × ReadsLine line old.state from count × ReadsInTurn between later frames new count to
+    (between : LiveState) × (count : ℕ) × (old.pending ≡ []) × LiveReplied line frame old between × ReadsLine line old.state from count
+    × ReadsInTurn between later frames new count to
 ReadsInTurn old (push ∷ later) (frame ∷ frames) new from to =
-    (between : LiveState) × (count : ℕ) × Pushed frame old between × ReadsPush old.pending old.state from count × ReadsInTurn between later frames new count to
+    (between : LiveState) × (count : ℕ) × Pushed frame old between × ReadsPush old.pending old.state from count
+    × ReadsInTurn between later frames new count to
 
 -- these lines are answered so by these frames, some first of the last one's pushes among them
 pub record ReadsBy (lines : List (Option (List ℕ))) (frames : List Frame) (old new : LiveState) (from to : ℕ) : Type 0 where

@@ -16,18 +16,22 @@ use Rattle.stored_book.specs.Standing.{StandsForBook}
 use Rattle.hosted_lines.specs.Running.{CostsLines, EndsSo, IsAhead}
 use Rattle.hosted_lines.specs.Shown.{pages}
 
-module _ {P : Type 0} {g : Ghosts P} {h : StepperGhosts (ServiceStepper P g) ServiceError} {beside : StreamGhosts (ServiceStepper P g)} (told : streams.Ghosts P) (total : ℕ) (book : List Series) (old new : Live (ServiceStepper P g) ServiceError h beside) where
+module _ {P : Type 0} {g : Ghosts P} {h : StepperGhosts (ServiceStepper P g) ServiceError} {beside : StreamGhosts (ServiceStepper P g)}
+    (told : streams.Ghosts P) (total : ℕ) (book : List Series) (old new : Live (ServiceStepper P g) ServiceError h beside) where
   -- what was done and sent, by how the run ended
   abbrev pub EndsOn : End → Type 0
   EndsOn end = IfSome (told.left (pages old)) (λ input.
-      EndsSo (λ after. StandsForBook (its.view new).image total after) input (its.state old total book) (told.left (pages new)) (told.sent (pages old)) (told.sent (pages new)) end)
+      EndsSo (λ after. StandsForBook (its.view new).image total after) input (its.state old total book) (told.left (pages new))
+      (told.sent (pages old)) (told.sent (pages new)) end)
 
   -- at each moment a crash leaves such a book
   abbrev pub LastsFor : Type 0
   LastsFor = IfSome (told.left (pages old)) (λ input. IfSome (told.sent (pages old)) (λ bytes.
-      Since (its.view old) (its.view new) (λ image sent. IsAhead (λ after. StandsForBook image total after) input (its.state old total book) (sent_now (its.view old)) sent)))
+      Since (its.view old) (its.view new) (λ image sent. IsAhead (λ after. StandsForBook image total after) input (its.state old total book)
+      (sent_now (its.view old)) sent)))
 
   -- the lines, the groups and the pushes cost no more than they may, and nothing else was read or synced
   abbrev pub CostsFew : Type 0
   CostsFew = IfSome (told.left (pages old)) (λ input.
-      CostsLines input (record { live = its.state old total book; reads = (its.view old).reads; syncs = (its.view old).syncs }) (told.pieces (pages old)) (told.pieces (pages new)) (its.view new).reads (its.view new).syncs)
+      CostsLines input (record { live = its.state old total book; reads = (its.view old).reads; syncs = (its.view old).syncs })
+      (told.pieces (pages old)) (told.pieces (pages new)) (its.view new).reads (its.view new).syncs)

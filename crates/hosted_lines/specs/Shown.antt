@@ -11,15 +11,16 @@ use Rattle.live_view.specs.declared.live.Live.{Live}
 use Rattle.live_view.specs.declared.stepper.Stepper.{Ghosts as StepperGhosts}
 use Rattle.series_book.specs.declared.one_series.Series.{Series}
 
-module _ {P : Type 0} {g : Ghosts P} {h : StepperGhosts (ServiceStepper P g) ServiceError} {beside : StreamGhosts (ServiceStepper P g)} where
-  -- the pages below
-  abbrev pub pages : Live (ServiceStepper P g) ServiceError h beside → P
-  pages it = shown.pages (its.service it)
+module _ {P : Type 0} {g : Ghosts P} {h : StepperGhosts (ServiceStepper P g) ServiceError} {beside : StreamGhosts (ServiceStepper P g)}
+  where
+    -- the pages below
+    abbrev pub pages : Live (ServiceStepper P g) ServiceError h beside → P
+    pages it = shown.pages (its.service it)
 
-  -- what holds of the book, of the sessions and of their last views, whatever book the pages stand for
-  abbrev pub HoldsSound : Live (ServiceStepper P g) ServiceError h beside → Type 0
-  HoldsSound it = its.ForBook it (λ total book. IsSound (shown.state (its.service it) total book))
+    -- what holds of the book, of the sessions and of their last views, whatever book the pages stand for
+    abbrev pub HoldsSound : Live (ServiceStepper P g) ServiceError h beside → Type 0
+    HoldsSound it = its.ForBook it (λ total book. IsSound (shown.state (its.service it) total book))
 
-  -- so of each book that the pages stand for, where that holds of it
-  abbrev pub ForSound : Live (ServiceStepper P g) ServiceError h beside → (ℕ → List Series → Type 0) → Type 0
-  ForSound it IsSo = its.ForBook it (λ total book. IsSound (shown.state (its.service it) total book) → IsSo total book)
+    -- so of each book that the pages stand for, where that holds of it
+    abbrev pub ForSound : Live (ServiceStepper P g) ServiceError h beside → (ℕ → List Series → Type 0) → Type 0
+    ForSound it IsSo = its.ForBook it (λ total book. IsSound (shown.state (its.service it) total book) → IsSo total book)

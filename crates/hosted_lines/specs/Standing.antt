@@ -48,7 +48,8 @@ DoesFrom (Over old) it text (Over new) = Does old it text new
 -- whatever the pages are, it is told which line or push blames a page that the end calls damaged
 abbrev pub StopsFrom : Stand → Given → Type 0 → ℕ → Image → Option (List ℕ) → Option (List ℕ) → ℕ → ℕ → End → Type 0
 StopsFrom (Any old) it is_told count image before now reads syncs end =
-    OfDamaged (BlamesFirst MayAnswerHost followed_behind BlamesHost (old.ahead ++ lines_of it) old.watched before now is_told count image) end
+    OfDamaged (BlamesFirst MayAnswerHost followed_behind BlamesHost (old.ahead ++ lines_of it) old.watched before now is_told count image)
+    end
 StopsFrom (Over old) it is_told count image before now reads syncs end = Stops old it image now reads syncs end
 
 abbrev pub LeavesFrom : Stand → Given → ℕ → Image → ℕ → Type 0

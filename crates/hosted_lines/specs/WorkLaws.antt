@@ -13,13 +13,23 @@ use Rattle.hosted_lines.specs.GoesLaws.{IsBeside, held_of, held_same, host_cause
 use Rattle.hosted_lines.specs.Standing.{Any, DoesFrom, LastsFrom, Over, RestsFrom, Stand, Stands, watched_of}
 use Rattle.hosted_lines.specs.Working.{AreTold, CausesEnd, Hosted, IsFit, IsHosted}
 
-pub fit_kept : (old new : View) (pending pending' : List ℕ) (edits : List Edit) → DiskKept old new → pending' ≡ pending → IsFit old pending edits → IsFit new pending' edits
-fit_kept old new pending pending' edits kept same fit = record { sound = kept.fit fit.sound; idle = same ∙ fit.idle; few = fit.few; are_edits = fit.are_edits }
+pub fit_kept : (old new : View) (pending pending' : List ℕ) (edits : List Edit) → DiskKept old new → pending' ≡ pending
+    → IsFit old pending edits → IsFit new pending' edits
+fit_kept old new pending pending' edits kept same fit = record {
+  sound = kept.fit fit.sound;
+  idle = same ∙ fit.idle;
+  few = fit.few;
+  are_edits = fit.are_edits;
+}
 
-pub held_kept : {sessions sessions' : List Session} {followed followed' pending pending' : List ℕ} → sessions' ≡ sessions → followed' ≡ followed → pending' ≡ pending → held_of sessions' followed' pending' ≡ held_of sessions followed pending
-held_kept {sessions} {sessions'} {followed} {followed'} {pending} {pending'} same same_followed same_pending = held_same sessions sessions' followed followed' pending pending' same same_followed same_pending
+pub held_kept : {sessions sessions' : List Session} {followed followed' pending pending' : List ℕ} → sessions' ≡ sessions
+    → followed' ≡ followed → pending' ≡ pending → held_of sessions' followed' pending' ≡ held_of sessions followed pending
+held_kept {sessions} {sessions'} {followed} {followed'} {pending} {pending'} same same_followed same_pending = held_same sessions sessions'
+    followed followed' pending pending' same same_followed same_pending
 
-kept_so : (hosted : Hosted) (edits : List Edit) (told told' : Type 0) (old new : View) (held held' : Held) (before now : Option (List ℕ)) → (told → told') → DiskKept old new → held' ≡ held → now ≡ before → IsHosted hosted edits told old held before → IsHosted hosted edits told' new held' now
+kept_so : (hosted : Hosted) (edits : List Edit) (told told' : Type 0) (old new : View) (held held' : Held) (before now : Option (List ℕ))
+    → (told → told') → DiskKept old new → held' ≡ held → now ≡ before → IsHosted hosted edits told old held before
+    → IsHosted hosted edits told' new held' now
 kept_so hosted edits told told' old new held held' before now more disk same unsent is =
     let P : Image → Type 0 = λ i. StandsForBook i hosted.total hosted.book in
     record {
@@ -34,7 +44,8 @@ kept_so hosted edits told told' old new held held' before now more disk same uns
       syncs_are = is.syncs_are ∙ sym disk.syncs;
     }
 
-pub stands_kept : (stand : Stand) (edits : List Edit) (told told' : Type 0) (old new : View) (held held' : Held) (before now : Option (List ℕ)) → (told → told') → DiskKept old new → held' ≡ held → now ≡ before
+pub stands_kept : (stand : Stand) (edits : List Edit) (told told' : Type 0) (old new : View) (held held' : Held)
+    (before now : Option (List ℕ)) → (told → told') → DiskKept old new → held' ≡ held → now ≡ before
     → Stands stand edits told old held before → Stands stand edits told' new held' now
 stands_kept (Any named) edits told told' old new held held' before now more disk same unsent is =
     record { spell = is.spell; watched_are = is.watched_are ∙ sym (ap watched_of same) }
@@ -45,12 +56,14 @@ told_after : (text : List ℕ) (before : Option (List ℕ)) → AreTold before �
 told_after text None told = absurd told
 told_after text (Some bytes) told = tt
 
-pub lasts_on : (stand : Stand) (it : Given) (text : List ℕ) (behind : Stand) → DoesFrom stand it text behind → LastsFrom stand → LastsFrom behind
+pub lasts_on : (stand : Stand) (it : Given) (text : List ℕ) (behind : Stand) → DoesFrom stand it text behind → LastsFrom stand
+    → LastsFrom behind
 lasts_on (Any old) it text behind does lasts = absurd lasts
 lasts_on (Over old) it text (Any new) does lasts = absurd does
 lasts_on (Over old) it text (Over new) does lasts = subst AreTold (sym does.0.sent_is) (told_after text old.sent lasts)
 
-pub now_rests : (stand : Stand) (edits : List Edit) (told : Type 0) (at : View) (held : Held) (sent : Option (List ℕ)) → Only at.image (Now at) → Stands stand edits told at held sent → (image : Image) → Now at image → RestsFrom stand image
+pub now_rests : (stand : Stand) (edits : List Edit) (told : Type 0) (at : View) (held : Held) (sent : Option (List ℕ))
+    → Only at.image (Now at) → Stands stand edits told at held sent → (image : Image) → Now at image → RestsFrom stand image
 now_rests (Any named) edits told at held sent only stands image left = tt
 now_rests (Over hosted) edits told at held sent only stands image left =
     let P : Image → Type 0 = λ i. StandsForBook i hosted.total hosted.book in subst P (sym (only image left)) stands.stands
@@ -62,5 +75,10 @@ pub besides : {at : View} {reads sends : ℕ} → at.beside.read_faults ≡ read
 besides {at} {reads} {sends} r s = record { reads_are = r; sends_are = s }
 
 -- why a later call ended is why all ended, where no fault was counted before
-pub causes_later : (old mid new : Side) → IsBeside old → IsBeside mid → CountsFault None old.view mid.view → (end : End) → Goes old mid → CausesEnd end mid new → CausesEnd end old new
-causes_later old mid new was are quiet end goes is = record { cause = host_cause_later old mid new end was are quiet is.cause; within = is.within; sound = is.sound }
+pub causes_later : (old mid new : Side) → IsBeside old → IsBeside mid → CountsFault None old.view mid.view → (end : End) → Goes old mid
+    → CausesEnd end mid new → CausesEnd end old new
+causes_later old mid new was are quiet end goes is = record {
+  cause = host_cause_later old mid new end was are quiet is.cause;
+  within = is.within;
+  sound = is.sound;
+}

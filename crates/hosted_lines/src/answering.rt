@@ -55,7 +55,8 @@ pub(crate) fn send_frame<P: PageWorld>(
     ensures left { P.left (pages live.new) ≡ P.left (pages live.old) }
     ensures pieces { P.pieces (pages live.new) ≡ P.pieces (pages live.old) }
     ensures read_faults { P.read_faults (pages live.new) ≡ P.read_faults (pages live.old) }
-    ensures beside { follows.Keeps (shown.Keeps (P.sends (length (spelling frame.now)) (pages live.old) (pages live.new)) (its.service live.old) (its.service live.new)) live.old live.new }
+    ensures beside { follows.Keeps (shown.Keeps (P.sends (length (spelling frame.now)) (pages live.old) (pages live.new))
+        (its.service live.old) (its.service live.new)) live.old live.new }
 {
     let Ok(bytes) = encode(alloc, frame) else {
         return Err(End::NoMemory);
@@ -183,7 +184,8 @@ pub fn answer_line<P: PageWorld>(
     // whatever the pages are
     ensures sends { OnOk result (SendsFor P.Streams MayAnswerLive followed_after (unless_empty (Some line.now)) live.old live.new) }
     // a page that is called damaged is so for the line, or for a push behind it
-    ensures blames { IfErr result (BlamesFor P.Streams MayAnswerLive followed_after Blames (unless_empty (Some line.now)) live.old live.new) }
+    ensures blames { IfErr result (BlamesFor P.Streams MayAnswerLive followed_after Blames
+        (unless_empty (Some line.now)) live.old live.new) }
     ensures goes { Goes (side_of P.Streams live.old) (side_of P.Streams live.new) }
     ensures cause { IfErr result (λ e. IsCause e (side_of P.Streams live.old) (side_of P.Streams live.new)) }
     ensures long { result ≢ Err End.InputTooLong }

@@ -41,9 +41,14 @@ fn answer_other<P: PageWorld>(
     requires short { length line.now ≤ 8192 }
     requires other { edit_of (Some line.now) ≡ [] }
     requires passed { IsPassed (Some line.now) }
-    ensures does { SpelledBy turns.old.edits.items (λ lines. ForSound live.old (λ total book. HostsFor P.Streams 1 (lines ++ unless_empty (Some line.now)) total book result live.old live.new)) }
-    ensures sends { SpelledBy turns.old.edits.items (λ lines. OnOk result (SendsFor P.Streams MayAnswerHost followed_behind (lines ++ unless_empty (Some line.now)) live.old live.new)) }
-    ensures blames { SpelledBy turns.old.edits.items (λ lines. IfErr result (BlamesFor P.Streams MayAnswerHost followed_behind BlamesHost (lines ++ unless_empty (Some line.now)) live.old live.new)) }
+    ensures does { SpelledBy turns.old.edits.items (λ lines. ForSound live.old
+        (λ total book. HostsFor P.Streams 1 (lines ++ unless_empty (Some line.now)) total book result live.old live.new)) }
+    ensures sends { SpelledBy turns.old.edits.items
+        (λ lines. OnOk result (SendsFor P.Streams MayAnswerHost followed_behind
+        (lines ++ unless_empty (Some line.now)) live.old live.new)) }
+    ensures blames { SpelledBy turns.old.edits.items
+        (λ lines. IfErr result (BlamesFor P.Streams MayAnswerHost followed_behind BlamesHost
+        (lines ++ unless_empty (Some line.now)) live.old live.new)) }
     ensures none { turns.new.edits.items ≡ [] }
     ensures goes { Goes (side_of P.Streams live.old) (side_of P.Streams live.new) }
     ensures cause { IfErr result (λ e. CausesEnd e (side_of P.Streams live.old) (side_of P.Streams live.new)) }
@@ -76,9 +81,14 @@ pub(crate) fn answer_alone<P: PageWorld>(
     requires other { edit_of (Some line.now) ≡ [] }
     requires asks { asked.now ≡ host_line line.now }
     requires range { IsInRange asked.now }
-    ensures does { SpelledBy turns.old.edits.items (λ lines. ForSound live.old (λ total book. HostsFor P.Streams 1 (lines ++ unless_empty (Some line.now)) total book result live.old live.new)) }
-    ensures sends { SpelledBy turns.old.edits.items (λ lines. OnOk result (SendsFor P.Streams MayAnswerHost followed_behind (lines ++ unless_empty (Some line.now)) live.old live.new)) }
-    ensures blames { SpelledBy turns.old.edits.items (λ lines. IfErr result (BlamesFor P.Streams MayAnswerHost followed_behind BlamesHost (lines ++ unless_empty (Some line.now)) live.old live.new)) }
+    ensures does { SpelledBy turns.old.edits.items (λ lines. ForSound live.old
+        (λ total book. HostsFor P.Streams 1 (lines ++ unless_empty (Some line.now)) total book result live.old live.new)) }
+    ensures sends { SpelledBy turns.old.edits.items
+        (λ lines. OnOk result (SendsFor P.Streams MayAnswerHost followed_behind
+        (lines ++ unless_empty (Some line.now)) live.old live.new)) }
+    ensures blames { SpelledBy turns.old.edits.items
+        (λ lines. IfErr result (BlamesFor P.Streams MayAnswerHost followed_behind BlamesHost
+        (lines ++ unless_empty (Some line.now)) live.old live.new)) }
     ensures none { turns.new.edits.items ≡ [] }
     ensures goes { Goes (side_of P.Streams live.old) (side_of P.Streams live.new) }
     ensures cause { IfErr result (λ e. CausesEnd e (side_of P.Streams live.old) (side_of P.Streams live.new)) }
@@ -105,9 +115,12 @@ pub(crate) fn refuse_long<P: PageWorld>(
     requires idle { follows.IsIdle live.old }
     requires few { length turns.old.edits.items ≤ most_ahead }
     requires are_edits { All IsEdit turns.old.edits.items }
-    ensures does { SpelledBy turns.old.edits.items (λ lines. ForSound live.old (λ total book. HostsFor P.Streams 1 (lines ++ None ∷ []) total book result live.old live.new)) }
-    ensures sends { SpelledBy turns.old.edits.items (λ lines. OnOk result (SendsFor P.Streams MayAnswerHost followed_behind (lines ++ None ∷ []) live.old live.new)) }
-    ensures blames { SpelledBy turns.old.edits.items (λ lines. IfErr result (BlamesFor P.Streams MayAnswerHost followed_behind BlamesHost (lines ++ None ∷ []) live.old live.new)) }
+    ensures does { SpelledBy turns.old.edits.items (λ lines. ForSound live.old
+        (λ total book. HostsFor P.Streams 1 (lines ++ None ∷ []) total book result live.old live.new)) }
+    ensures sends { SpelledBy turns.old.edits.items
+        (λ lines. OnOk result (SendsFor P.Streams MayAnswerHost followed_behind (lines ++ None ∷ []) live.old live.new)) }
+    ensures blames { SpelledBy turns.old.edits.items
+        (λ lines. IfErr result (BlamesFor P.Streams MayAnswerHost followed_behind BlamesHost (lines ++ None ∷ []) live.old live.new)) }
     ensures none { turns.new.edits.items ≡ [] }
     ensures goes { Goes (side_of P.Streams live.old) (side_of P.Streams live.new) }
     ensures cause { IfErr result (λ e. CausesEnd e (side_of P.Streams live.old) (side_of P.Streams live.new)) }

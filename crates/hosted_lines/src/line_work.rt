@@ -35,7 +35,8 @@ impl<P: PageWorld> LineWork<Live<ServiceStepper<P>>, End> for HostTurns {
 
     ghost fit = { λ turns live at. IsFit (its.view live) (follows.pending live) turns.edits.items };
 
-    ghost stands = { λ stand turns live. Stands stand turns.edits.items (shown.IsTold (its.service live)) (its.view live) (held_by live) (P.sent (pages live)) };
+    ghost stands = { λ stand turns live. Stands stand turns.edits.items (shown.IsTold (its.service live)) (its.view live) (held_by live)
+        (P.sent (pages live)) };
 
     ghost lasting = { LastsFrom };
 
@@ -43,7 +44,8 @@ impl<P: PageWorld> LineWork<Live<ServiceStepper<P>>, End> for HostTurns {
 
     ghost does = { DoesFrom };
 
-    ghost stops = { λ stand it end turns live before. StopsFrom stand it (shown.IsTold (its.service live)) (its.view live).size (its.view live).image before (P.sent (pages live)) (its.view live).reads (its.view live).syncs end };
+    ghost stops = { λ stand it end turns live before. StopsFrom stand it (shown.IsTold (its.service live)) (its.view live).size
+        (its.view live).image before (P.sent (pages live)) (its.view live).reads (its.view live).syncs end };
 
     ghost leaves = { LeavesFrom };
 
@@ -97,9 +99,15 @@ impl<P: PageWorld> LineWork<Live<ServiceStepper<P>>, End> for HostTurns {
 
     ghost fit_later = { λ work at first later less fit. fit };
 
-    ghost fit_taken = { λ work old new at takes fit. fit_kept (its.view old) (its.view new) (follows.pending old) (follows.pending new) work.edits.items (P.take_keeps (pages old) (pages new) takes.changed.store_is.pages_are) takes.pending_same fit };
+    ghost fit_taken = { λ work old new at takes fit. fit_kept (its.view old) (its.view new) (follows.pending old)
+        (follows.pending new) work.edits.items (P.take_keeps (pages old) (pages new) takes.changed.store_is.pages_are) takes.pending_same
+        fit };
 
-    ghost stands_taken = { λ stand work old new takes sent stands. stands_kept stand work.edits.items (shown.IsTold (its.service old)) (shown.IsTold (its.service new)) (its.view old) (its.view new) (held_by old) (held_by new) (P.sent (pages old)) (P.sent (pages new)) (P.take_told (pages old) (pages new) takes.changed.store_is.pages_are) (P.take_keeps (pages old) (pages new) takes.changed.store_is.pages_are) (held_kept takes.changed.sessions takes.followed_same takes.pending_same) sent stands };
+    ghost stands_taken = { λ stand work old new takes sent stands. stands_kept stand work.edits.items (shown.IsTold (its.service old))
+        (shown.IsTold (its.service new)) (its.view old) (its.view new) (held_by old) (held_by new) (P.sent (pages old)) (P.sent (pages new))
+        (P.take_told (pages old) (pages new) takes.changed.store_is.pages_are)
+        (P.take_keeps (pages old) (pages new) takes.changed.store_is.pages_are)
+        (held_kept takes.changed.sessions takes.followed_same takes.pending_same) sent stands };
 
     ghost lasting_on = { λ stand it text behind did lasting. lasts_on stand it text behind did lasting };
 
@@ -107,15 +115,22 @@ impl<P: PageWorld> LineWork<Live<ServiceStepper<P>>, End> for HostTurns {
 
     ghost take_passes = { λ old new takes. P.take_passes (pages old) (pages new) takes.changed.store_is.pages_are };
 
-    ghost take_goes = { λ old new takes sent reads sends pieces. goes_streams _ _ (P.take_keeps (pages old) (pages new) takes.changed.store_is.pages_are) (P.take_told (pages old) (pages new) takes.changed.store_is.pages_are) (P.take_was_told (pages old) (pages new) takes.changed.store_is.pages_are) (P.take_goes_on (pages old) (pages new) takes.changed.store_is.pages_are) reads (no_less sends) };
+    ghost take_goes = { λ old new takes sent reads sends pieces. goes_streams _ _
+        (P.take_keeps (pages old) (pages new) takes.changed.store_is.pages_are)
+        (P.take_told (pages old) (pages new) takes.changed.store_is.pages_are)
+        (P.take_was_told (pages old) (pages new) takes.changed.store_is.pages_are)
+        (P.take_goes_on (pages old) (pages new) takes.changed.store_is.pages_are) reads (no_less sends) };
 
-    ghost now_rests = { λ stand work from at fit stands lasting. now_rests stand work.edits.items (shown.IsTold (its.service from)) (its.view from) (held_by from) (P.sent (pages from)) (P.rests (pages from) fit.sound) stands };
+    ghost now_rests = { λ stand work from at fit stands lasting. now_rests stand work.edits.items (shown.IsTold (its.service from))
+        (its.view from) (held_by from) (P.sent (pages from)) (P.rests (pages from) fit.sound) stands };
 
     ghost goes_none = { λ at. goes_nowhere _ };
 
     ghost goes_then = { λ old between new. goes_further _ _ _ };
 
-    ghost cause_later = { λ end old between new quiet goes. causes_later _ _ _ (besides (P.beside_read_faults (pages old)) (P.beside_send_faults (pages old))) (besides (P.beside_read_faults (pages between)) (P.beside_send_faults (pages between))) quiet end goes };
+    ghost cause_later = { λ end old between new quiet goes. causes_later _ _ _
+        (besides (P.beside_read_faults (pages old)) (P.beside_send_faults (pages old)))
+        (besides (P.beside_read_faults (pages between)) (P.beside_send_faults (pages between))) quiet end goes };
 
     ghost counts_sent = { λ at. P.counts_sent (pages at) };
 

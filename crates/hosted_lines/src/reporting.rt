@@ -72,9 +72,12 @@ fn send_report<P: PageWorld>(
 ) -> Result<(), End>
     requires may { MayMake asked.now (its.service live.old) }
     requires idle { follows.IsIdle live.old }
-    ensures does { (line : List ℕ) → host_line line ≡ asked.now → ForSound live.old (λ total book. HostsFor P.Streams 0 (Some line ∷ []) total book result live.old live.new) }
-    ensures sends { (line : List ℕ) → host_line line ≡ asked.now → OnOk result (SendsFor P.Streams MayAnswerHost followed_behind (Some line ∷ []) live.old live.new) }
-    ensures blames { (line : List ℕ) → host_line line ≡ asked.now → IfErr result (BlamesFor P.Streams MayAnswerHost followed_behind BlamesHost (Some line ∷ []) live.old live.new) }
+    ensures does { (line : List ℕ) → host_line line ≡ asked.now
+        → ForSound live.old (λ total book. HostsFor P.Streams 0 (Some line ∷ []) total book result live.old live.new) }
+    ensures sends { (line : List ℕ) → host_line line ≡ asked.now
+        → OnOk result (SendsFor P.Streams MayAnswerHost followed_behind (Some line ∷ []) live.old live.new) }
+    ensures blames { (line : List ℕ) → host_line line ≡ asked.now
+        → IfErr result (BlamesFor P.Streams MayAnswerHost followed_behind BlamesHost (Some line ∷ []) live.old live.new) }
     ensures goes { Goes (side_of P.Streams live.old) (side_of P.Streams live.new) }
     ensures cause { IfErr result (λ e. CausesEnd e (side_of P.Streams live.old) (side_of P.Streams live.new)) }
     ensures faults { CountsFault (fault_in end_fault result) (its.view live.old) (its.view live.new) }
@@ -101,9 +104,15 @@ pub(crate) fn answer_asked<P: PageWorld>(
     requires are_edits { All IsEdit turns.old.edits.items }
     requires report { AsksReport asked.now }
     requires range { IsInRange asked.now }
-    ensures does { (line : List ℕ) → host_line line ≡ asked.now → SpelledBy turns.old.edits.items (λ lines. ForSound live.old (λ total book. HostsFor P.Streams 1 (lines ++ Some line ∷ []) total book result live.old live.new)) }
-    ensures sends { (line : List ℕ) → host_line line ≡ asked.now → SpelledBy turns.old.edits.items (λ lines. OnOk result (SendsFor P.Streams MayAnswerHost followed_behind (lines ++ Some line ∷ []) live.old live.new)) }
-    ensures blames { (line : List ℕ) → host_line line ≡ asked.now → SpelledBy turns.old.edits.items (λ lines. IfErr result (BlamesFor P.Streams MayAnswerHost followed_behind BlamesHost (lines ++ Some line ∷ []) live.old live.new)) }
+    ensures does { (line : List ℕ) → host_line line ≡ asked.now
+        → SpelledBy turns.old.edits.items (λ lines. ForSound live.old
+        (λ total book. HostsFor P.Streams 1 (lines ++ Some line ∷ []) total book result live.old live.new)) }
+    ensures sends { (line : List ℕ) → host_line line ≡ asked.now
+        → SpelledBy turns.old.edits.items (λ lines. OnOk result
+        (SendsFor P.Streams MayAnswerHost followed_behind (lines ++ Some line ∷ []) live.old live.new)) }
+    ensures blames { (line : List ℕ) → host_line line ≡ asked.now
+        → SpelledBy turns.old.edits.items (λ lines. IfErr result
+        (BlamesFor P.Streams MayAnswerHost followed_behind BlamesHost (lines ++ Some line ∷ []) live.old live.new)) }
     ensures none { turns.new.edits.items ≡ [] }
     ensures goes { Goes (side_of P.Streams live.old) (side_of P.Streams live.new) }
     ensures cause { IfErr result (λ e. CausesEnd e (side_of P.Streams live.old) (side_of P.Streams live.new)) }

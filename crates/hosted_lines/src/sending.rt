@@ -35,7 +35,8 @@ pub(crate) fn send_frames<P: PageWorld>(
     ensures left { P.left (pages live.new) ≡ P.left (pages live.old) }
     ensures pieces { P.pieces (pages live.new) ≡ P.pieces (pages live.old) }
     ensures read_faults { P.read_faults (pages live.new) ≡ P.read_faults (pages live.old) }
-    ensures beside { follows.Keeps (shown.Keeps (P.sends (length (spelled frames.now)) (pages live.old) (pages live.new)) (its.service live.old) (its.service live.new)) live.old live.new }
+    ensures beside { follows.Keeps (shown.Keeps (P.sends (length (spelled frames.now)) (pages live.old) (pages live.new))
+        (its.service live.old) (its.service live.new)) live.old live.new }
 {
     match frames.split_first() {
         Some((frame, later)) => match send_frame(alloc, live, frame) {

@@ -42,7 +42,8 @@ pub fn host_lines<P: PageWorld>(alloc: Global, live: &mut Live<ServiceStepper<P>
     ensures costs { its.ForBook live.old (λ total book. CostsFew P.Streams total book live.old live.new) }
     // whatever the pages are
     // each frame names sessions that are open by those before it, and after `Done` one answers each line; the others are pushes
-    ensures answers { result ≡ End.Done → IfSome (P.left (pages live.old)) (λ input. SendsFor P.Streams MayAnswerHost followed_behind (told input) live.old live.new) }
+    ensures answers { result ≡ End.Done → IfSome (P.left (pages live.old))
+        (λ input. SendsFor P.Streams MayAnswerHost followed_behind (told input) live.old live.new) }
     // a page that is called damaged is so for the line behind the answered ones, or for a push
     ensures blames { BlamesInput P.Streams MayAnswerHost followed_behind BlamesHost live.old live.new result }
     ensures whole { result ≡ End.Done → IsReadUp (P.left (pages live.old)) (P.left (pages live.new)) }

@@ -35,9 +35,11 @@ fn answer_group<P: PageWorld>(
     requires some { 0 < length edits.now }
     requires few { length edits.now ≤ most_ahead }
     requires are_edits { All IsEdit edits.now }
-    ensures does { SpelledBy edits.now (λ lines. ForSound live.old (λ total book. HostsFor P.Streams 1 lines total book result live.old live.new)) }
+    ensures does { SpelledBy edits.now (λ lines. ForSound live.old
+        (λ total book. HostsFor P.Streams 1 lines total book result live.old live.new)) }
     ensures sends { SpelledBy edits.now (λ lines. OnOk result (SendsFor P.Streams MayAnswerHost followed_behind lines live.old live.new)) }
-    ensures blames { SpelledBy edits.now (λ lines. IfErr result (BlamesFor P.Streams MayAnswerHost followed_behind BlamesHost lines live.old live.new)) }
+    ensures blames { SpelledBy edits.now (λ lines. IfErr result
+        (BlamesFor P.Streams MayAnswerHost followed_behind BlamesHost lines live.old live.new)) }
     ensures goes { Goes (side_of P.Streams live.old) (side_of P.Streams live.new) }
     ensures cause { IfErr result (λ e. CausesEnd e (side_of P.Streams live.old) (side_of P.Streams live.new)) }
     ensures faults { CountsFault (fault_in end_fault result) (its.view live.old) (its.view live.new) }
@@ -61,9 +63,11 @@ fn do_group<P: PageWorld>(
     requires idle { follows.IsIdle live.old }
     requires few { length edits.now ≤ most_ahead }
     requires are_edits { All IsEdit edits.now }
-    ensures does { SpelledBy edits.now (λ lines. ForSound live.old (λ total book. HostsFor P.Streams 1 lines total book result live.old live.new)) }
+    ensures does { SpelledBy edits.now (λ lines. ForSound live.old
+        (λ total book. HostsFor P.Streams 1 lines total book result live.old live.new)) }
     ensures sends { SpelledBy edits.now (λ lines. OnOk result (SendsFor P.Streams MayAnswerHost followed_behind lines live.old live.new)) }
-    ensures blames { SpelledBy edits.now (λ lines. IfErr result (BlamesFor P.Streams MayAnswerHost followed_behind BlamesHost lines live.old live.new)) }
+    ensures blames { SpelledBy edits.now (λ lines. IfErr result
+        (BlamesFor P.Streams MayAnswerHost followed_behind BlamesHost lines live.old live.new)) }
     ensures goes { Goes (side_of P.Streams live.old) (side_of P.Streams live.new) }
     ensures cause { IfErr result (λ e. CausesEnd e (side_of P.Streams live.old) (side_of P.Streams live.new)) }
     ensures faults { CountsFault (fault_in end_fault result) (its.view live.old) (its.view live.new) }
@@ -90,9 +94,12 @@ pub(crate) fn settle<P: PageWorld>(
     requires idle { follows.IsIdle live.old }
     requires few { length turns.old.edits.items ≤ most_ahead }
     requires are_edits { All IsEdit turns.old.edits.items }
-    ensures does { SpelledBy turns.old.edits.items (λ lines. ForSound live.old (λ total book. HostsFor P.Streams 1 lines total book result live.old live.new)) }
-    ensures sends { SpelledBy turns.old.edits.items (λ lines. OnOk result (SendsFor P.Streams MayAnswerHost followed_behind lines live.old live.new)) }
-    ensures blames { SpelledBy turns.old.edits.items (λ lines. IfErr result (BlamesFor P.Streams MayAnswerHost followed_behind BlamesHost lines live.old live.new)) }
+    ensures does { SpelledBy turns.old.edits.items (λ lines. ForSound live.old
+        (λ total book. HostsFor P.Streams 1 lines total book result live.old live.new)) }
+    ensures sends { SpelledBy turns.old.edits.items
+        (λ lines. OnOk result (SendsFor P.Streams MayAnswerHost followed_behind lines live.old live.new)) }
+    ensures blames { SpelledBy turns.old.edits.items
+        (λ lines. IfErr result (BlamesFor P.Streams MayAnswerHost followed_behind BlamesHost lines live.old live.new)) }
     ensures none { turns.new.edits.items ≡ [] }
     ensures goes { Goes (side_of P.Streams live.old) (side_of P.Streams live.new) }
     ensures cause { IfErr result (λ e. CausesEnd e (side_of P.Streams live.old) (side_of P.Streams live.new)) }

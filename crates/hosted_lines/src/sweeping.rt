@@ -35,9 +35,12 @@ fn send_step<P: PageWorld>(
 ) -> Result<(), End>
     requires sound { (its.view live.old).fit }
     requires idle { follows.IsIdle live.old }
-    ensures does { (line : List ℕ) → host_line line ≡ Sweep rule.now → ForSound live.old (λ total book. HostsFor P.Streams 0 (Some line ∷ []) total book result live.old live.new) }
-    ensures sends { (line : List ℕ) → host_line line ≡ Sweep rule.now → OnOk result (SendsFor P.Streams MayAnswerHost followed_behind (Some line ∷ []) live.old live.new) }
-    ensures blames { (line : List ℕ) → host_line line ≡ Sweep rule.now → IfErr result (BlamesFor P.Streams MayAnswerHost followed_behind BlamesHost (Some line ∷ []) live.old live.new) }
+    ensures does { (line : List ℕ) → host_line line ≡ Sweep rule.now
+        → ForSound live.old (λ total book. HostsFor P.Streams 0 (Some line ∷ []) total book result live.old live.new) }
+    ensures sends { (line : List ℕ) → host_line line ≡ Sweep rule.now
+        → OnOk result (SendsFor P.Streams MayAnswerHost followed_behind (Some line ∷ []) live.old live.new) }
+    ensures blames { (line : List ℕ) → host_line line ≡ Sweep rule.now
+        → IfErr result (BlamesFor P.Streams MayAnswerHost followed_behind BlamesHost (Some line ∷ []) live.old live.new) }
     ensures goes { Goes (side_of P.Streams live.old) (side_of P.Streams live.new) }
     ensures cause { IfErr result (λ e. CausesEnd e (side_of P.Streams live.old) (side_of P.Streams live.new)) }
     ensures faults { CountsFault (fault_in end_fault result) (its.view live.old) (its.view live.new) }
@@ -59,9 +62,12 @@ fn do_step<P: PageWorld>(
 ) -> Result<(), End>
     requires sound { (its.view live.old).fit }
     requires idle { follows.IsIdle live.old }
-    ensures does { (line : List ℕ) → host_line line ≡ Sweep rule.now → ForSound live.old (λ total book. HostsFor P.Streams 0 (Some line ∷ []) total book result live.old live.new) }
-    ensures sends { (line : List ℕ) → host_line line ≡ Sweep rule.now → OnOk result (SendsFor P.Streams MayAnswerHost followed_behind (Some line ∷ []) live.old live.new) }
-    ensures blames { (line : List ℕ) → host_line line ≡ Sweep rule.now → IfErr result (BlamesFor P.Streams MayAnswerHost followed_behind BlamesHost (Some line ∷ []) live.old live.new) }
+    ensures does { (line : List ℕ) → host_line line ≡ Sweep rule.now
+        → ForSound live.old (λ total book. HostsFor P.Streams 0 (Some line ∷ []) total book result live.old live.new) }
+    ensures sends { (line : List ℕ) → host_line line ≡ Sweep rule.now
+        → OnOk result (SendsFor P.Streams MayAnswerHost followed_behind (Some line ∷ []) live.old live.new) }
+    ensures blames { (line : List ℕ) → host_line line ≡ Sweep rule.now
+        → IfErr result (BlamesFor P.Streams MayAnswerHost followed_behind BlamesHost (Some line ∷ []) live.old live.new) }
     ensures goes { Goes (side_of P.Streams live.old) (side_of P.Streams live.new) }
     ensures cause { IfErr result (λ e. CausesEnd e (side_of P.Streams live.old) (side_of P.Streams live.new)) }
     ensures faults { CountsFault (fault_in end_fault result) (its.view live.old) (its.view live.new) }
@@ -86,9 +92,15 @@ pub(crate) fn answer_step<P: PageWorld>(
     requires idle { follows.IsIdle live.old }
     requires few { length turns.old.edits.items ≤ most_ahead }
     requires are_edits { All IsEdit turns.old.edits.items }
-    ensures does { (line : List ℕ) → host_line line ≡ Sweep rule.now → SpelledBy turns.old.edits.items (λ lines. ForSound live.old (λ total book. HostsFor P.Streams 1 (lines ++ Some line ∷ []) total book result live.old live.new)) }
-    ensures sends { (line : List ℕ) → host_line line ≡ Sweep rule.now → SpelledBy turns.old.edits.items (λ lines. OnOk result (SendsFor P.Streams MayAnswerHost followed_behind (lines ++ Some line ∷ []) live.old live.new)) }
-    ensures blames { (line : List ℕ) → host_line line ≡ Sweep rule.now → SpelledBy turns.old.edits.items (λ lines. IfErr result (BlamesFor P.Streams MayAnswerHost followed_behind BlamesHost (lines ++ Some line ∷ []) live.old live.new)) }
+    ensures does { (line : List ℕ) → host_line line ≡ Sweep rule.now
+        → SpelledBy turns.old.edits.items (λ lines. ForSound live.old
+        (λ total book. HostsFor P.Streams 1 (lines ++ Some line ∷ []) total book result live.old live.new)) }
+    ensures sends { (line : List ℕ) → host_line line ≡ Sweep rule.now
+        → SpelledBy turns.old.edits.items (λ lines. OnOk result
+        (SendsFor P.Streams MayAnswerHost followed_behind (lines ++ Some line ∷ []) live.old live.new)) }
+    ensures blames { (line : List ℕ) → host_line line ≡ Sweep rule.now
+        → SpelledBy turns.old.edits.items (λ lines. IfErr result
+        (BlamesFor P.Streams MayAnswerHost followed_behind BlamesHost (lines ++ Some line ∷ []) live.old live.new)) }
     ensures none { turns.new.edits.items ≡ [] }
     ensures goes { Goes (side_of P.Streams live.old) (side_of P.Streams live.new) }
     ensures cause { IfErr result (λ e. CausesEnd e (side_of P.Streams live.old) (side_of P.Streams live.new)) }

@@ -23,7 +23,8 @@ reworded p q a b first same = (
 )
 
 -- drawing one set and then another draws both
-pub both : (a b : ℕ → ℕ → Type 0) (first second third : Canvas) → Adds a first second → Adds b second third → Adds (λ x y. a x y ⊎ b x y) first third
+pub both : (a b : ℕ → ℕ → Type 0) (first second third : Canvas) → Adds a first second → Adds b second third
+    → Adds (λ x y. a x y ⊎ b x y) first third
 both a b first second third p q = record {
   width = q.width ∙ p.width;
   height = q.height ∙ p.height;
@@ -34,7 +35,8 @@ both a b first second third p q = record {
 }
 
 -- drawing a set draws the same set in other words
-pub alike : (a b : ℕ → ℕ → Type 0) (old new : Canvas) → Adds a old new → ((x y : ℕ) → x < old.w → y < old.h → a x y ↔ b x y) → Adds b old new
+pub alike : (a b : ℕ → ℕ → Type 0) (old new : Canvas) → Adds a old new → ((x y : ℕ) → x < old.w → y < old.h → a x y ↔ b x y)
+    → Adds b old new
 alike a b old new p same = record {
   width = p.width;
   height = p.height;
@@ -50,7 +52,8 @@ none a c off = record {
 }
 
 -- a set that was drawn column by column up to a column, and then in that column
-pub next_column : (s here : ℕ → ℕ → Type 0) (at next : ℕ) (old now new : Canvas) → next ≡ at + 1 → Adds (λ x y. s x y × (x < at)) old now → Adds here now new → ((x y : ℕ) → x < old.w → y < old.h → here x y ↔ (s x y × (x ≡ at))) → Adds (λ x y. s x y × (x < next)) old new
+pub next_column : (s here : ℕ → ℕ → Type 0) (at next : ℕ) (old now new : Canvas) → next ≡ at + 1 → Adds (λ x y. s x y × (x < at)) old now
+    → Adds here now new → ((x y : ℕ) → x < old.w → y < old.h → here x y ↔ (s x y × (x ≡ at))) → Adds (λ x y. s x y × (x < next)) old new
 next_column s here at next old now new is_next before added same =
     alike _ _ old new (both _ _ old now new before added)
     (λ x y column row. (
@@ -65,7 +68,8 @@ next_column s here at next old now new is_next before added same =
     ))
 
 -- it is drawn whole once no column is left
-pub last_column : (s : ℕ → ℕ → Type 0) (end : ℕ) (old new : Canvas) → Adds (λ x y. s x y × (x < end)) old new → ((x y : ℕ) → s x y → x < end) → Adds s old new
+pub last_column : (s : ℕ → ℕ → Type 0) (end : ℕ) (old new : Canvas) → Adds (λ x y. s x y × (x < end)) old new
+    → ((x y : ℕ) → s x y → x < end) → Adds s old new
 last_column s end old new drawn within = alike _ _ old new drawn (λ x y column row. ((λ h. h.0), (λ h. (h, within x y h))))
 
 -- nothing is drawn before its first column

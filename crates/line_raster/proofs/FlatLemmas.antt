@@ -19,7 +19,9 @@ pub moved_none : (rows columns error : ℕ) → 0 < columns → error ≡ column
 moved_none rows columns error some e = record { sum = omega (arith, e); small = omega (arith, some, e) }
 
 -- the next column is moved by as much
-pub moved_more : (rows rows' columns columns' n moved error moved' error' : ℕ) → rows' ≡ rows → columns' ≡ columns → moved' * (2 * columns') + error' ≡ moved * (2 * columns') + error + 2 * rows' → error' < 2 * columns' → IsMoved rows columns n moved error → IsMoved rows columns (n + 1) moved' error'
+pub moved_more : (rows rows' columns columns' n moved error moved' error' : ℕ) → rows' ≡ rows → columns' ≡ columns
+    → moved' * (2 * columns') + error' ≡ moved * (2 * columns') + error + 2 * rows' → error' < 2 * columns'
+    → IsMoved rows columns n moved error → IsMoved rows columns (n + 1) moved' error'
 moved_more rows rows' columns columns' n moved error moved' error' is_rows is_columns sum small h =
     let P : ℕ → Type 0 = λ c. moved' * (2 * c) + error' ≡ moved * (2 * c) + error + 2 * rows' in
     let sum' : moved' * (2 * columns) + error' ≡ moved * (2 * columns) + error + 2 * rows' = subst P is_columns sum in
@@ -30,7 +32,9 @@ pub moved_share : (rows columns n moved error : ℕ) → IsMoved rows columns n 
 moved_share rows columns n moved error h = sym (ap (λ m. m / (2 * columns)) (sym h.sum) ∙ div-mul-add moved (2 * columns) error h.small)
 
 -- the row of a column is a flat segment's pixel there
-pub flat_step : (p q : Point) (from to : ℤ) (x n moved : ℕ) → from ≡ p.y → to ≡ q.y → rows p q ≤ columns p q → 0 < columns p q → p.x + n ≡ x → n ≤ columns p q → moved ≡ share (columns p q) (rows p q) n → (a : ℕ) (b : ℤ) → ((a ≡ x) × (b ≡ towards from to moved)) ↔ (InColumn p q a b × (a ≡ x))
+pub flat_step : (p q : Point) (from to : ℤ) (x n moved : ℕ) → from ≡ p.y → to ≡ q.y → rows p q ≤ columns p q → 0 < columns p q → p.x + n ≡ x
+    → n ≤ columns p q → moved ≡ share (columns p q) (rows p q) n → (a : ℕ) (b : ℤ)
+    → ((a ≡ x) × (b ≡ towards from to moved)) ↔ (InColumn p q a b × (a ≡ x))
 flat_step p q from to x n moved is_from is_to wide some column reached is_moved a b = (
   (λ h.
       let level : b ≡ towards p.y q.y (share (columns p q) (rows p q) n) = h.1 ∙ (λ t. towards (is_from t) (is_to t) (is_moved t)) in

@@ -1,4 +1,5 @@
-use Rattle.std.proofs.Common.{◌≡◌, ℕ, ℤ, pos, negsuc, zero, suc, ◌+◌, ◌-◌, ◌*◌, ◌%◌, ◌<◌, ◌≤◌, ◌+ℤ◌, ◌-ℤ◌, ◌*ℤ◌, ◌≤ℤ◌, ◌<ℤ◌, neg_ℤ, refl, sym, ◌∙◌, ap, inl, inr, arith, unsigned_abs}
+use Rattle.std.proofs.Common.{◌≡◌, ℕ, ℤ, pos, negsuc, zero, suc, ◌+◌, ◌-◌, ◌*◌, ◌%◌, ◌<◌, ◌≤◌, ◌+ℤ◌, ◌-ℤ◌, ◌*ℤ◌, ◌≤ℤ◌, ◌<ℤ◌, neg_ℤ, refl}
+use Rattle.std.proofs.Common.{sym, ◌∙◌, ap, inl, inr, arith, unsigned_abs}
 use Rattle.std.proofs.lemmas.Int.{ints, clamps, by_lt_z}
 use Rattle.std.proofs.lemmas.Bool.{cases_lt, cases_order}
 use Rattle.std.proofs.lemmas.Nat.{div-add-mod', mod_below}
@@ -42,8 +43,10 @@ share_nearest most distance n (pos a) some =
     elim (cases_order a m) [
       | inl same ↦ omega (arith, ap (gap most (n * distance)) (ap pos same))
       | inr apart ↦ elim apart [
-        | inl left ↦ (let step : (a + 1) * most ≤ m * most = mul-le-mul_right most (omega (arith, left)) in omega (arith, low, high, here, there, step))
-        | inr right ↦ (let step : (m + 1) * most ≤ a * most = mul-le-mul_right most (omega (arith, right)) in omega (arith, low, high, here, there, step))
+        | inl left ↦ (let step : (a + 1) * most ≤ m * most = mul-le-mul_right most (omega (arith, left)) in
+            omega (arith, low, high, here, there, step))
+        | inr right ↦ (let step : (m + 1) * most ≤ a * most = mul-le-mul_right most (omega (arith, right)) in
+            omega (arith, low, high, here, there, step))
       ]
     ]
 share_nearest most distance n (negsuc b) some =
@@ -55,7 +58,8 @@ share_nearest most distance n (negsuc b) some =
     omega (arith, low, high, here, there, step)
 
 -- one that is as near is no more steps
-share_tie : (most distance n : ℕ) (u : ℤ) → 0 < most → gap most (n * distance) u ≡ gap most (n * distance) (pos (share most distance n)) → unsigned_abs u ≤ share most distance n
+share_tie : (most distance n : ℕ) (u : ℤ) → 0 < most → gap most (n * distance) u ≡ gap most (n * distance) (pos (share most distance n))
+    → unsigned_abs u ≤ share most distance n
 share_tie most distance n (pos a) some tie =
     let m : ℕ = share most distance n in
     let low = share_low most distance n some in
@@ -63,7 +67,8 @@ share_tie most distance n (pos a) some tie =
     let here = gap_forwards most (n * distance) m in
     let there = gap_forwards most (n * distance) a in
     elim (cases_lt m a) [
-      | inl right ↦ (let step : (m + 1) * most ≤ a * most = mul-le-mul_right most (omega (arith, right)) in absurd (omega (arith, low, high, here, there, step, tie)))
+      | inl right ↦ (let step : (m + 1) * most ≤ a * most = mul-le-mul_right most (omega (arith, right)) in
+          absurd (omega (arith, low, high, here, there, step, tie)))
       | inr within ↦ within
     ]
 share_tie most distance n (negsuc b) some tie =
@@ -92,13 +97,15 @@ times_back n zero = omega (arith, ints)
 times_back n (suc k) = omega (arith, ints)
 
 -- the distance of a row from the straight line, upwards and downwards
-row_distance_up : (p q : Point) (x n : ℕ) (z : ℤ) → p.y ≤ℤ q.y → x ≡ p.x + n → row_distance p q x z ≡ gap (columns p q) (n * rows p q) (z -ℤ p.y)
+row_distance_up : (p q : Point) (x n : ℕ) (z : ℤ) → p.y ≤ℤ q.y → x ≡ p.x + n
+    → row_distance p q x z ≡ gap (columns p q) (n * rows p q) (z -ℤ p.y)
 row_distance_up p q x n z up column =
     let way : q.y -ℤ p.y ≡ pos (rows p q) = omega (arith, ints) in
     let along : pos x -ℤ pos p.x ≡ pos n = omega (arith, ints, column) in
     (λ t. unsigned_abs ((z -ℤ p.y) *ℤ pos (columns p q) -ℤ along t *ℤ way t))
 
-row_distance_down : (p q : Point) (x n : ℕ) (z : ℤ) → q.y <ℤ p.y → x ≡ p.x + n → row_distance p q x z ≡ gap (columns p q) (n * rows p q) (p.y -ℤ z)
+row_distance_down : (p q : Point) (x n : ℕ) (z : ℤ) → q.y <ℤ p.y → x ≡ p.x + n
+    → row_distance p q x z ≡ gap (columns p q) (n * rows p q) (p.y -ℤ z)
 row_distance_down p q x n z down column =
     let way : q.y -ℤ p.y ≡ neg_ℤ (pos (rows p q)) = omega (arith, ints) in
     let along : pos x -ℤ pos p.x ≡ pos n = omega (arith, ints, column) in
@@ -120,7 +127,8 @@ back_times zero k = omega (arith, ints)
 back_times (suc n) k = omega (arith, ints)
 
 -- a gap sideways doesn't depend on the sign
-gap_sideways : (most distance n : ℕ) (u : ℤ) → unsigned_abs (u *ℤ neg_ℤ (pos most) -ℤ neg_ℤ (pos n) *ℤ pos distance) ≡ gap most (n * distance) u
+gap_sideways : (most distance n : ℕ) (u : ℤ) → unsigned_abs (u *ℤ neg_ℤ (pos most) -ℤ neg_ℤ (pos n) *ℤ pos distance) ≡ gap most
+    (n * distance) u
 gap_sideways most distance n u =
     let back = steps_back u most in
     let away = back_times n distance in
@@ -128,13 +136,15 @@ gap_sideways most distance n u =
     (λ t. unsigned_abs (back t -ℤ away t)) ∙ ap unsigned_abs turned ∙ size_turned (u *ℤ pos most -ℤ pos (n * distance))
 
 -- the distance of a column from the straight line
-column_distance_up : (p q : Point) (y z : ℤ) (n : ℕ) → p.y ≤ℤ q.y → y ≡ p.y +ℤ pos n → column_distance p q z y ≡ gap (rows p q) (n * columns p q) (z -ℤ pos p.x)
+column_distance_up : (p q : Point) (y z : ℤ) (n : ℕ) → p.y ≤ℤ q.y → y ≡ p.y +ℤ pos n
+    → column_distance p q z y ≡ gap (rows p q) (n * columns p q) (z -ℤ pos p.x)
 column_distance_up p q y z n up row =
     let way : q.y -ℤ p.y ≡ pos (rows p q) = omega (arith, ints) in
     let along : y -ℤ p.y ≡ pos n = omega (arith, ints, row) in
     (λ t. unsigned_abs ((z -ℤ pos p.x) *ℤ way t -ℤ along t *ℤ pos (columns p q)))
 
-column_distance_down : (p q : Point) (y z : ℤ) (n : ℕ) → q.y <ℤ p.y → y ≡ p.y -ℤ pos n → column_distance p q z y ≡ gap (rows p q) (n * columns p q) (z -ℤ pos p.x)
+column_distance_down : (p q : Point) (y z : ℤ) (n : ℕ) → q.y <ℤ p.y → y ≡ p.y -ℤ pos n
+    → column_distance p q z y ≡ gap (rows p q) (n * columns p q) (z -ℤ pos p.x)
 column_distance_down p q y z n down row =
     let way : q.y -ℤ p.y ≡ neg_ℤ (pos (rows p q)) = omega (arith, ints) in
     let along : y -ℤ p.y ≡ neg_ℤ (pos n) = omega (arith, ints, row) in
@@ -204,11 +214,20 @@ one_column p q x z y h k =
     k.column ∙ ap (λ n. p.x + share (rows p q) (columns p q) n) same ∙ sym h.column
 
 -- the pixel of a flat segment in a column
-pub row_pixel : (p q : Point) (x n : ℕ) (y : ℤ) → rows p q ≤ columns p q → 0 < columns p q → p.x + n ≡ x → n ≤ columns p q → y ≡ towards p.y q.y (share (columns p q) (rows p q) n) → InColumn p q x y
-row_pixel p q x n y wide some column reached row = record { wide = wide; some = some; n = n; reached = reached; column = sym column; row = row }
+pub row_pixel : (p q : Point) (x n : ℕ) (y : ℤ) → rows p q ≤ columns p q → 0 < columns p q → p.x + n ≡ x → n ≤ columns p q
+    → y ≡ towards p.y q.y (share (columns p q) (rows p q) n) → InColumn p q x y
+row_pixel p q x n y wide some column reached row = record {
+  wide = wide;
+  some = some;
+  n = n;
+  reached = reached;
+  column = sym column;
+  row = row;
+}
 
 -- the pixel of a steep segment in a row
-pub column_pixel : (p q : Point) (y : ℤ) (n x : ℕ) → columns p q < rows p q → int_min p.y q.y ≤ℤ y → y ≤ℤ int_max p.y q.y → n ≡ unsigned_abs (y -ℤ p.y) → x ≡ p.x + share (rows p q) (columns p q) n → InRow p q x y
+pub column_pixel : (p q : Point) (y : ℤ) (n x : ℕ) → columns p q < rows p q → int_min p.y q.y ≤ℤ y → y ≤ℤ int_max p.y q.y
+    → n ≡ unsigned_abs (y -ℤ p.y) → x ≡ p.x + share (rows p q) (columns p q) n → InRow p q x y
 column_pixel p q y n x high above below is_n column =
     by_lt_z q.y p.y
     (λ down. record {

@@ -25,9 +25,15 @@ on_flat p q x y wide some = (
 )
 
 -- a dot
-pub on_dot : (p q : Point) (at : ℤ) (x : ℕ) (y : ℤ) → at ≡ p.y → rows p q ≤ columns p q → columns p q ≡ 0 → InFill p.x at at x y ↔ On p q x y
+pub on_dot : (p q : Point) (at : ℤ) (x : ℕ) (y : ℤ) → at ≡ p.y → rows p q ≤ columns p q → columns p q ≡ 0
+    → InFill p.x at at x y ↔ On p q x y
 on_dot p q at x y is_at wide none = (
-  (λ h. inl (record { no_columns = none; no_rows = omega (arith, wide, none); column = h.here; row = omega (arith, ints, is_at, h.above, h.below) })),
+  (λ h. inl (record {
+    no_columns = none;
+    no_rows = omega (arith, wide, none);
+    column = h.here;
+    row = omega (arith, ints, is_at, h.above, h.below);
+  })),
   (λ h. elim h [
     | inl dot ↦ record { here = dot.column; above = omega (arith, ints, is_at, dot.row); below = omega (arith, ints, is_at, dot.row) }
     | inr more ↦ elim more [ inl flat ↦ absurd (omega (arith, flat.some, none)) | inr steep ↦ absurd (omega (arith, steep.high, wide)) ]

@@ -20,7 +20,8 @@ cut_by rows columns k next error some h n reached = (
         | inl before ↦ before
         | inr behind ↦
             let step : next * (2 * columns) ≤ n * (2 * columns) = mul-le-mul_right (2 * columns) behind in
-            let right : k + 1 ≤ share rows columns n = le-div (k + 1) (2 * n * columns + rows) (2 * rows) (omega (arith, some)) (omega (arith, step, h.sum, h.small)) in
+            let right : k + 1 ≤ share rows columns n = le-div (k + 1) (2 * n * columns + rows) (2 * rows) (omega (arith, some))
+            (omega (arith, step, h.sum, h.small)) in
             absurd (omega (arith, left, right))
       ]),
 )
@@ -37,7 +38,9 @@ cut_bound rows columns k next error within h =
     ]
 
 -- the cut of the next column, where whole columns' rows and a rest are all rows
-pub balanced_more : (rows rows' columns columns' k cut error cut' error' whole rest : ℕ) → rows' ≡ rows → columns' ≡ columns → whole * columns' + rest ≡ rows' → cut' * (2 * columns') + error' ≡ cut * (2 * columns') + error + 2 * (whole * columns' + rest) → error' < 2 * columns' → IsBalanced rows columns k cut error → IsBalanced rows columns (k + 1) cut' error'
+pub balanced_more : (rows rows' columns columns' k cut error cut' error' whole rest : ℕ) → rows' ≡ rows → columns' ≡ columns
+    → whole * columns' + rest ≡ rows' → cut' * (2 * columns') + error' ≡ cut * (2 * columns') + error + 2 * (whole * columns' + rest)
+    → error' < 2 * columns' → IsBalanced rows columns k cut error → IsBalanced rows columns (k + 1) cut' error'
 balanced_more rows rows' columns columns' k cut error cut' error' whole rest is_rows is_columns parts sum small h =
     let P : ℕ → Type 0 = λ c. whole * c + rest ≡ rows' in
     let Q : ℕ → Type 0 = λ c. cut' * (2 * c) + error' ≡ cut * (2 * c) + error + 2 * (whole * c + rest) in

@@ -1,4 +1,5 @@
-use Rattle.std.proofs.Common.{◌≡◌, ℕ, ℤ, pos, negsuc, ◌+◌, ◌*◌, ◌<◌, ◌≤◌, ◌+ℤ◌, ◌-ℤ◌, ◌≤ℤ◌, ◌<ℤ◌, ◌↔◌, refl, sym, ◌∙◌, inl, inr, arith, unsigned_abs}
+use Rattle.std.proofs.Common.{◌≡◌, ℕ, ℤ, pos, negsuc, ◌+◌, ◌*◌, ◌<◌, ◌≤◌, ◌+ℤ◌, ◌-ℤ◌, ◌≤ℤ◌, ◌<ℤ◌, ◌↔◌, refl, sym, ◌∙◌, inl, inr, arith}
+use Rattle.std.proofs.Common.{unsigned_abs}
 use Rattle.std.proofs.lemmas.Int.{ints}
 use Rattle.std.proofs.lemmas.Bool.{cases_lt}
 use Rattle.std.proofs.lemmas.Nat.{div_below}
@@ -8,13 +9,19 @@ use Rattle.line_raster.specs.Segment.{columns, rows, share, towards, InRow, InFi
 use Rattle.line_raster.specs.Run.{InRun, IsCut}
 
 -- the rows between two cuts are a steep segment's pixels in a column
-pub steep_run : (p q : Point) (from to : ℤ) (x k first end : ℕ) → from ≡ p.y → to ≡ q.y → columns p q < rows p q → p.x + k ≡ x → end ≤ rows p q + 1 → IsCut (rows p q) (columns p q) first k → IsCut (rows p q) (columns p q) end (k + 1) → (a : ℕ) (b : ℤ) → ((a ≡ x) × InRun from to first end b) ↔ (InRow p q a b × (a ≡ x))
+pub steep_run : (p q : Point) (from to : ℤ) (x k first end : ℕ) → from ≡ p.y → to ≡ q.y → columns p q < rows p q → p.x + k ≡ x
+    → end ≤ rows p q + 1 → IsCut (rows p q) (columns p q) first k → IsCut (rows p q) (columns p q) end (k + 1) → (a : ℕ) (b : ℤ)
+    → ((a ≡ x) × InRun from to first end b) ↔ (InRow p q a b × (a ≡ x))
 steep_run p q from to x k first end is_from is_to high column bound begun ended a b = (
   (λ h.
       let within : h.1.n ≤ rows p q = omega (arith, bound, h.1.short) in
       let below : share (rows p q) (columns p q) h.1.n < k + 1 = (ended h.1.n within).0 h.1.short in
       let above : k ≤ share (rows p q) (columns p q) h.1.n =
-      elim (cases_lt (share (rows p q) (columns p q) h.1.n) k) [ inl left ↦ (let early : h.1.n < first = (begun h.1.n within).1 left in absurd (omega (arith, early, h.1.begun))) | inr right ↦ right ] in
+      elim (cases_lt (share (rows p q) (columns p q) h.1.n) k) [
+        | inl left ↦ (let early : h.1.n < first = (begun h.1.n within).1 left in
+            absurd (omega (arith, early, h.1.begun)))
+        | inr right ↦ right
+      ] in
       let level : b ≡ towards p.y q.y h.1.n = h.1.row ∙ (λ t. towards (is_from t) (is_to t) h.1.n) in
       (record { high = high; n = h.1.n; reached = within; row = level; column = omega (arith, h.0, column, below, above) }, h.0)),
   (λ h.
@@ -22,7 +29,12 @@ steep_run p q from to x k first end is_from is_to high column bound begun ended 
         h.1,
         record {
           n = h.0.n;
-          begun = elim (cases_lt h.0.n first) [ inl early ↦ (let left : share (rows p q) (columns p q) h.0.n < k = (begun h.0.n h.0.reached).0 early in absurd (omega (arith, left, at))) | inr late ↦ late ];
+          begun = elim (cases_lt h.0.n first) [
+            | inl early ↦
+                (let left : share (rows p q) (columns p q) h.0.n < k = (begun h.0.n h.0.reached).0 early in
+                absurd (omega (arith, left, at)))
+            | inr late ↦ late
+          ];
           short = (ended h.0.n h.0.reached).1 (omega (arith, at));
           row = h.0.row ∙ (λ t. towards (sym is_from t) (sym is_to t) h.0.n);
         },
@@ -33,7 +45,8 @@ steep_run p q from to x k first end is_from is_to high column bound begun ended 
 pub share-le : (most distance n : ℕ) → 0 < most → n ≤ most → share most distance n ≤ distance
 share-le most distance n some reached =
     let part : n * distance ≤ most * distance = mul-le-mul_right distance reached in
-    let below : share most distance n < distance + 1 = div_below (2 * n * distance + most) (2 * most) (distance + 1) (omega arith) (omega (arith, part)) in
+    let below : share most distance n < distance + 1 = div_below (2 * n * distance + most) (2 * most) (distance + 1) (omega arith)
+    (omega (arith, part)) in
     omega (arith, below)
 
 -- the pixels of a steep segment too
@@ -56,7 +69,8 @@ pub towards_up : (from to : ℤ) (n : ℕ) → from ≤ℤ to → towards from t
 towards_up from to n up = grind (arith, ints)
 
 -- a run of rows downwards
-pub run_down : (from to : ℤ) (first end x : ℕ) (low high : ℤ) → to <ℤ from → low ≡ (from -ℤ pos end) +ℤ pos 1 → high ≡ from -ℤ pos first → (a : ℕ) (b : ℤ) → InFill x low high a b ↔ ((a ≡ x) × InRun from to first end b)
+pub run_down : (from to : ℤ) (first end x : ℕ) (low high : ℤ) → to <ℤ from → low ≡ (from -ℤ pos end) +ℤ pos 1 → high ≡ from -ℤ pos first
+    → (a : ℕ) (b : ℤ) → InFill x low high a b ↔ ((a ≡ x) × InRun from to first end b)
 run_down from to first end x low high down is_low is_high a b = (
   (λ h.
       let n : ℕ = unsigned_abs (from -ℤ b) in
@@ -75,7 +89,8 @@ run_down from to first end x low high down is_low is_high a b = (
 )
 
 -- a run of rows upwards
-pub run_up : (from to : ℤ) (first end x : ℕ) (low high : ℤ) → from ≤ℤ to → low ≡ from +ℤ pos first → high ≡ (from +ℤ pos end) -ℤ pos 1 → (a : ℕ) (b : ℤ) → InFill x low high a b ↔ ((a ≡ x) × InRun from to first end b)
+pub run_up : (from to : ℤ) (first end x : ℕ) (low high : ℤ) → from ≤ℤ to → low ≡ from +ℤ pos first → high ≡ (from +ℤ pos end) -ℤ pos 1
+    → (a : ℕ) (b : ℤ) → InFill x low high a b ↔ ((a ≡ x) × InRun from to first end b)
 run_up from to first end x low high up is_low is_high a b = (
   (λ h.
       let n : ℕ = unsigned_abs (b -ℤ from) in

@@ -18,4 +18,5 @@ column_distance p q x y = unsigned_abs ((x -ℤ pos p.x) *ℤ (q.y -ℤ p.y) -�
 -- No column of the row is nearer to the straight line, and of two that are equally near this is the farther from the start.
 pub record IsNearestColumn (p q : Point) (x : ℕ) (y : ℤ) : Type 0 where
   pub nearest : (z : ℤ) → column_distance p q (pos x) y ≤ column_distance p q z y
-  pub tie : (z : ℤ) → column_distance p q z y ≡ column_distance p q (pos x) y → unsigned_abs (z -ℤ pos p.x) ≤ unsigned_abs (pos x -ℤ pos p.x)
+  pub tie : (z : ℤ) → column_distance p q z y ≡ column_distance p q (pos x) y
+      → unsigned_abs (z -ℤ pos p.x) ≤ unsigned_abs (pos x -ℤ pos p.x)

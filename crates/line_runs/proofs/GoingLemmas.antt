@@ -1,5 +1,6 @@
 -- How much of an input is done, by what is done of the next line.
-use Rattle.std.proofs.Common.{◌≡◌, ◌∙◌, ℕ, ◌+◌, ◌-◌, ◌<◌, ◌≤◌, List, [], ◌∷◌, ◌++◌, length, take, drop, Option, Some, None, IfSome, refl, ap, sym, subst, arith, inl, inr, length-append}
+use Rattle.std.proofs.Common.{◌≡◌, ◌∙◌, ℕ, ◌+◌, ◌-◌, ◌<◌, ◌≤◌, List, [], ◌∷◌, ◌++◌, length, take, drop, Option, Some, None, IfSome, refl}
+use Rattle.std.proofs.Common.{ap, sym, subst, arith, inl, inr, length-append}
 use Rattle.std.specs.List.{after_first}
 use Rattle.std.proofs.lemmas.List.{take-append-drop, append-nil}
 use Rattle.block_disk.specs.Streams.{sent_after, left_after}
@@ -22,7 +23,8 @@ use Rattle.line_runs.specs.MomentLaws.{since_none, since_then, through_by, throu
 use Rattle.line_runs.specs.Runs.{AreAll, AreTakenWithin, AreUpTo, FewPauses, IsAheadWithin, Runs, StopsSoWithin}
 use Rattle.line_runs.specs.Shown.{PausesSo}
 use Rattle.line_runs.specs.declared.lines_stop.LinesStop.TheVariants as stop
-use Rattle.line_runs.proofs.PauseLemmas.{Counted, Waits, counted_later, counted_line, few_more, few_paused, few_waits, no_feed, none_ready, paused_waits}
+use Rattle.line_runs.proofs.PauseLemmas.{Counted, Waits, counted_later, counted_line, few_more, few_paused, few_waits, no_feed, none_ready}
+use Rattle.line_runs.proofs.PauseLemmas.{paused_waits}
 
 -- as many bytes were sent as are told
 abbrev pub CountsSent : Option (List ℕ) → View → Type 0
@@ -373,13 +375,15 @@ module _ {State : Type 0} (limit : ℕ) (does : State → Given → List ℕ →
 
   -- at a fault of the input
   pub fault_stops : {E : Type 0} (stops : State → Given → E → Option (List ℕ) → Type 0) (IsNow : State → Type 0)
-      (before sent : Option (List ℕ)) (r r' : Reading) (left left' : Option (List ℕ)) (pieces now now' : ℕ) (f : LineFault) → r.limit ≡ limit → (f ≡ fault.ReadFault → IfSome o (λ input. IsWhole (take r.given input)))
+      (before sent : Option (List ℕ)) (r r' : Reading) (left left' : Option (List ℕ)) (pieces now now' : ℕ) (f : LineFault)
+      → r.limit ≡ limit → (f ≡ fault.ReadFault → IfSome o (λ input. IsWhole (take r.given input)))
       → (f ≡ fault.ReadFault → NoLineIn (r'.taken - r.given) (unread r left))
       → (f ≡ fault.InputTooLong → NoLineIn (r.limit - r.given) (unread r left)) → (f ≡ fault.InputTooLong → r.limit < r'.taken)
       → left' ≡ left_after (r'.taken - r.given) (unread r left) → r.taken ≡ r.given + length r.pending → r.taken ≤ r'.taken
       → input_length r'.taken left' ≡ input_length r.taken left → now ≤ now' → Going (Waiting limit r left pieces now) IsNow before sent
       → StopsSoWithin limit does stops IsNow state o left' before sent pieces now' (stop.Fault f)
-  fault_stops {E} stops IsNow before sent r r' left left' pieces now now' fault.ReadFault limited whole none_read none_past past after counts
+  fault_stops {E} stops IsNow before sent r r' left left' pieces now now' fault.ReadFault limited whole none_read none_past past after
+      counts
       forward sum later g =
       let given = g.done.given in
       record {
@@ -391,13 +395,15 @@ module _ {State : Type 0} (limit : ℕ) (does : State → Given → List ℕ →
         stands = g.stands;
         sent = g.sent;
       }
-  fault_stops {E} stops IsNow before sent r r' left left' pieces now now' fault.InputTooLong limited whole none_read none_past past after counts
+  fault_stops {E} stops IsNow before sent r r' left left' pieces now now' fault.InputTooLong limited whole none_read none_past past after
+      counts
       forward sum later g =
       let given = g.done.given in
       record {
         done = g.done;
         are = told_so (λ input. Waiting limit r left pieces now input given) (λ input. AreUpTo limit pieces now' input given) o
-            (λ input is. fault_within limit given r r' left left' pieces now now' later counts input is limited (none_past refl) (past refl) sum)
+            (λ input is. fault_within limit given r r' left left' pieces now now' later counts input is limited (none_past refl)
+            (past refl) sum)
             g.are;
         stands = g.stands;
         sent = g.sent;

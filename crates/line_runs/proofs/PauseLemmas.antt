@@ -1,5 +1,6 @@
 -- How many pauses there are, by the pieces that are taken.
-use Rattle.std.proofs.Common.{◌≡◌, ◌≢◌, ◌∙◌, ◌⊎◌, ℕ, ◌+◌, ◌-◌, ◌<◌, ◌≤◌, ◌^◌, List, [], ◌∷◌, ◌++◌, get_or, length, take, Option, Some, None, ap, sym, arith, inl, inr, length-append}
+use Rattle.std.proofs.Common.{◌≡◌, ◌≢◌, ◌∙◌, ◌⊎◌, ℕ, ◌+◌, ◌-◌, ◌<◌, ◌≤◌, ◌^◌, List, [], ◌∷◌, ◌++◌, get_or, length, take, Option, Some, None}
+use Rattle.std.proofs.Common.{ap, sym, arith, inl, inr, length-append}
 use Rattle.std.proofs.lemmas.List.{get_or_append_left, get_or-take, length-take}
 use Rattle.chart_world.specs.Lines.{NoLineFeed}
 use Rattle.chart_world.specs.Reading.{HasLine, IsNone, Reading, Took, unread}

@@ -1,5 +1,6 @@
 -- What is given of whole lines, of a line more and of a pause more.
-use Rattle.std.proofs.Common.{◌≡◌, ◌∙◌, ℕ, ◌+◌, List, [], ◌∷◌, ◌++◌, length, map, Option, refl, ap, sym, subst, inl, inr, arith, length-append}
+use Rattle.std.proofs.Common.{◌≡◌, ◌∙◌, ℕ, ◌+◌, List, [], ◌∷◌, ◌++◌, length, map, Option, refl, ap, sym, subst, inl, inr, arith}
+use Rattle.std.proofs.Common.{length-append}
 use Rattle.std.specs.List.{flat_map}
 use Rattle.chart_world.specs.Fronts.{IsWhole}
 use Rattle.chart_world.specs.Laws.{with_line_feed}

@@ -26,7 +26,8 @@ module _ {State S W : Type 0} (left sent : S → Option (List ℕ)) (pieces : S 
   -- not all of it was, of which lines may come from so many first bytes
   abbrev pub StopsOn : {E : Type 0} (limit : ℕ) (stops : State → Given → E → W → S → Option (List ℕ) → Type 0) → LinesStop E → Type 0
   StopsOn {E} limit stops stop =
-      StopsSoWithin limit does (λ s it end before. stops s it end work new before) (λ s. stands s work new) state (left old) (left new) (sent old)
+      StopsSoWithin limit does (λ s it end before. stops s it end work new before) (λ s. stands s work new) state (left old) (left new)
+      (sent old)
       (sent new) (pieces old) (pieces new) stop
 
 -- the next line stands ready, and the state stays; or it doesn't, and the work was paused

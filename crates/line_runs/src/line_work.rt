@@ -57,9 +57,12 @@ pub trait LineWork<S: Streams, E> {
         requires fit { fit self.old from.old at }
         requires early { at < limit }
         requires short { length line.now ≤ 8192 }
-        ensures does { (state : State) → stands state self.old from.old → OnOk result (DoesOn S.sent stands does state (Line at (Some line.now)) self.new from.old from.new) }
-        ensures stops { (state : State) → stands state self.old from.old → IfErr result (λ end. stops state (Line at (Some line.now)) end self.new from.new (S.sent from.old)) }
-        ensures leaves { (state : State) → stands state self.old from.old → lasting state → LeavesOn view leaves state (Line at (Some line.now)) from.old from.new }
+        ensures does { (state : State) → stands state self.old from.old
+            → OnOk result (DoesOn S.sent stands does state (Line at (Some line.now)) self.new from.old from.new) }
+        ensures stops { (state : State) → stands state self.old from.old
+            → IfErr result (λ end. stops state (Line at (Some line.now)) end self.new from.new (S.sent from.old)) }
+        ensures leaves { (state : State) → stands state self.old from.old → lasting state
+            → LeavesOn view leaves state (Line at (Some line.now)) from.old from.new }
         ensures fit { OnOk result (fit self.new from.new (at + 1)) }
         ensures fit_on_err { IfErr result (λ end. (harms end → ⊥) → fit self.new from.new (at + 1)) }
         ensures goes { goes from.old from.new }
@@ -72,9 +75,12 @@ pub trait LineWork<S: Streams, E> {
     fn long_line(&mut self, from: &mut S, at: u64) -> Result<(), E>
         requires fit { fit self.old from.old at }
         requires early { at < limit }
-        ensures does { (state : State) → stands state self.old from.old → OnOk result (DoesOn S.sent stands does state (Line at None) self.new from.old from.new) }
-        ensures stops { (state : State) → stands state self.old from.old → IfErr result (λ end. stops state (Line at None) end self.new from.new (S.sent from.old)) }
-        ensures leaves { (state : State) → stands state self.old from.old → lasting state → LeavesOn view leaves state (Line at None) from.old from.new }
+        ensures does { (state : State) → stands state self.old from.old
+            → OnOk result (DoesOn S.sent stands does state (Line at None) self.new from.old from.new) }
+        ensures stops { (state : State) → stands state self.old from.old
+            → IfErr result (λ end. stops state (Line at None) end self.new from.new (S.sent from.old)) }
+        ensures leaves { (state : State) → stands state self.old from.old → lasting state
+            → LeavesOn view leaves state (Line at None) from.old from.new }
         ensures fit { OnOk result (fit self.new from.new (at + 1)) }
         ensures fit_on_err { IfErr result (λ end. (harms end → ⊥) → fit self.new from.new (at + 1)) }
         ensures goes { goes from.old from.new }
@@ -87,9 +93,12 @@ pub trait LineWork<S: Streams, E> {
     /// take, before it is ended and before a fault of the input.
     fn pause(&mut self, from: &mut S) -> Result<(), E>
         requires fit { fit self.old from.old limit }
-        ensures does { (state : State) → stands state self.old from.old → OnOk result (DoesOn S.sent stands does state Pause self.new from.old from.new) }
-        ensures stops { (state : State) → stands state self.old from.old → IfErr result (λ end. stops state Pause end self.new from.new (S.sent from.old)) }
-        ensures leaves { (state : State) → stands state self.old from.old → lasting state → LeavesOn view leaves state Pause from.old from.new }
+        ensures does { (state : State) → stands state self.old from.old
+            → OnOk result (DoesOn S.sent stands does state Pause self.new from.old from.new) }
+        ensures stops { (state : State) → stands state self.old from.old
+            → IfErr result (λ end. stops state Pause end self.new from.new (S.sent from.old)) }
+        ensures leaves { (state : State) → stands state self.old from.old → lasting state
+            → LeavesOn view leaves state Pause from.old from.new }
         ensures fit { (at : ℕ) → fit self.old from.old at → OnOk result (fit self.new from.new at) }
         ensures fit_on_err { IfErr result (λ end. (harms end → ⊥) → fit self.new from.new limit) }
         ensures goes { goes from.old from.new }
@@ -101,9 +110,12 @@ pub trait LineWork<S: Streams, E> {
     /// Ends the work behind the last line and a pause.
     fn finish(&mut self, from: &mut S) -> Result<(), E>
         requires fit { fit self.old from.old limit }
-        ensures does { (state : State) → stands state self.old from.old → OnOk result (DoesOn S.sent stands does state End self.new from.old from.new) }
-        ensures stops { (state : State) → stands state self.old from.old → IfErr result (λ end. stops state End end self.new from.new (S.sent from.old)) }
-        ensures leaves { (state : State) → stands state self.old from.old → lasting state → LeavesOn view leaves state End from.old from.new }
+        ensures does { (state : State) → stands state self.old from.old
+            → OnOk result (DoesOn S.sent stands does state End self.new from.old from.new) }
+        ensures stops { (state : State) → stands state self.old from.old
+            → IfErr result (λ end. stops state End end self.new from.new (S.sent from.old)) }
+        ensures leaves { (state : State) → stands state self.old from.old → lasting state
+            → LeavesOn view leaves state End from.old from.new }
         ensures fit { OnOk result (fit self.new from.new limit) }
         ensures fit_on_err { IfErr result (λ end. (harms end → ⊥) → fit self.new from.new limit) }
         ensures goes { goes from.old from.new }
@@ -118,25 +130,31 @@ pub trait LineWork<S: Streams, E> {
     /// A take leaves the state and what a crash leaves.
     ghost fit_taken: { (work : Self) (old new : S) (at : ℕ) → S.takes old new → fit work old at → fit work new at };
 
-    ghost stands_taken: { (state : State) (work : Self) (old new : S) → S.takes old new → S.sent new ≡ S.sent old → stands state work old → stands state work new };
+    ghost stands_taken: { (state : State) (work : Self) (old new : S) → S.takes old new → S.sent new ≡ S.sent old → stands state work old
+        → stands state work new };
 
     /// It stays one of which that is told.
-    ghost lasting_on: { (state : State) (it : Given) (text : List ℕ) (behind : State) → does state it text behind → lasting state → lasting behind };
+    ghost lasting_on: { (state : State) (it : Given) (text : List ℕ) (behind : State) → does state it text behind → lasting state
+        → lasting behind };
 
     ghost take_keeps: { (old new : S) → S.takes old new → DiskKept (view old) (view new) };
 
-    ghost take_passes: { (old new : S) → S.takes old new → Passes (view old) (view new) (Now (view old)) (λ count. count ≡ sent_now (view old)) };
+    ghost take_passes: { (old new : S) → S.takes old new
+        → Passes (view old) (view new) (Now (view old)) (λ count. count ≡ sent_now (view old)) };
 
-    ghost take_goes: { (old new : S) → S.takes old new → S.sent new ≡ S.sent old → S.read_faults old ≤ S.read_faults new → S.send_faults new ≡ S.send_faults old → S.pieces old ≤ S.pieces new → goes old new };
+    ghost take_goes: { (old new : S) → S.takes old new → S.sent new ≡ S.sent old → S.read_faults old ≤ S.read_faults new
+        → S.send_faults new ≡ S.send_faults old → S.pieces old ≤ S.pieces new → goes old new };
 
     /// Between lines a crash leaves what rests.
-    ghost now_rests: { (state : State) (work : Self) (from : S) (at : ℕ) → fit work from at → stands state work from → lasting state → (image : Image) → Now (view from) image → rests state image };
+    ghost now_rests: { (state : State) (work : Self) (from : S) (at : ℕ) → fit work from at → stands state work from → lasting state
+        → (image : Image) → Now (view from) image → rests state image };
 
     ghost goes_none: { (at : S) → goes at at };
 
     ghost goes_then: { (old between new : S) → goes old between → goes between new → goes old new };
 
-    ghost cause_later: { (end : E) (old between new : S) → CountsFault None (view old) (view between) → goes old between → cause end between new → cause end old new };
+    ghost cause_later: { (end : E) (old between new : S) → CountsFault None (view old) (view between) → goes old between
+        → cause end between new → cause end old new };
 
     /// The streams are those beside what a crash leaves.
     ghost counts_sent: { (at : S) → IfSome (S.sent at) (λ bytes. sent_now (view at) ≡ length bytes) };

@@ -19,9 +19,12 @@ fn pause_for<S: Streams, E, W: LineWork<S, E>>(
 ) -> Result<(), E>
     requires fit { W.fit work.old from.old lines.now.given }
     requires within { lines.now.given ≤ W.limit }
-    ensures does { (state : W.State) → W.stands state work.old from.old → OnOk result (PausesOn S.sent W.stands W.does state lines.now work.new from.old from.new) }
-    ensures stops { (state : W.State) → W.stands state work.old from.old → IfErr result (λ end. W.stops state Pause end work.new from.new (S.sent from.old)) }
-    ensures leaves { (state : W.State) → W.stands state work.old from.old → W.lasting state → LeavesOn W.view W.leaves state Pause from.old from.new }
+    ensures does { (state : W.State) → W.stands state work.old from.old
+        → OnOk result (PausesOn S.sent W.stands W.does state lines.now work.new from.old from.new) }
+    ensures stops { (state : W.State) → W.stands state work.old from.old
+        → IfErr result (λ end. W.stops state Pause end work.new from.new (S.sent from.old)) }
+    ensures leaves { (state : W.State) → W.stands state work.old from.old → W.lasting state
+        → LeavesOn W.view W.leaves state Pause from.old from.new }
     ensures fit { OnOk result (W.fit work.new from.new lines.now.given) }
     ensures fit_on_err { IfErr result (λ end. (W.harms end → ⊥) → W.fit work.new from.new W.limit) }
     ensures goes { W.goes from.old from.new }
@@ -45,11 +48,14 @@ pub fn run_lines<S: Streams, E, W: LineWork<S, E>>(
 ) -> Result<(), LinesStop<E>>
     requires fit { W.fit work.old from.old 0 }
     requires fresh { lines.old ≡ unread_up_to W.limit }
-    ensures done { (state : W.State) → W.stands state work.old from.old → OnOk result (RunsAll S.left S.sent S.pieces W.stands W.does state work.new from.old from.new) }
+    ensures done { (state : W.State) → W.stands state work.old from.old
+        → OnOk result (RunsAll S.left S.sent S.pieces W.stands W.does state work.new from.old from.new) }
     ensures within { OnOk result (IfSome (S.left from.old) (λ input. length input ≤ W.limit)) }
-    ensures stops { (state : W.State) → W.stands state work.old from.old → IfErr result (StopsOn S.left S.sent S.pieces W.stands W.does state work.new from.old from.new W.limit W.stops) }
+    ensures stops { (state : W.State) → W.stands state work.old from.old
+        → IfErr result (StopsOn S.left S.sent S.pieces W.stands W.does state work.new from.old from.new W.limit W.stops) }
     // at each moment a crash leaves what some first lines left, or what the next one leaves on its way
-    ensures crash { (state : W.State) → W.stands state work.old from.old → W.lasting state → LastsOn W.limit S.left S.sent W.view W.does W.rests W.leaves state from.old from.new }
+    ensures crash { (state : W.State) → W.stands state work.old from.old → W.lasting state
+        → LastsOn W.limit S.left S.sent W.view W.does W.rests W.leaves state from.old from.new }
     // whatever the state is
     ensures whole { OnOk result (IsReadUp (S.left from.old) (S.left from.new)) }
     ensures long { result ≡ Err (LinesStop.Fault LineFault.InputTooLong) → IfSome (S.left from.old) (λ input. W.limit < length input) }

@@ -29,7 +29,8 @@ pub record Answered (input : List ℕ) (bytes : Option (List ℕ)) (given : ℕ)
   pub counted : given ≡ length front
   pub sends : Sends MayAnswerLive followed_after (told front) old new before now
 
-answered_first : (input : List ℕ) (r : Reading) (at : Watched) (before : Option (List ℕ)) → r ≡ unread_input → Answered input (unread r (Some input)) r.given at at before before
+answered_first : (input : List ℕ) (r : Reading) (at : Watched) (before : Option (List ℕ)) → r ≡ unread_input
+    → Answered input (unread r (Some input)) r.given at at before before
 answered_first input r at before fresh =
     let P : Reading → Type 0 = λ x. Answered input (unread x (Some input)) x.given at at before before in
     let L : List (Option (List ℕ)) → Type 0 = λ l. Sends MayAnswerLive followed_after l at at before before in
@@ -42,15 +43,18 @@ answered_first input r at before fresh =
       sends = subst L (sym (ap (λ l. filter says l) lines_none)) (sends_none MayAnswerLive followed_after at before);
     })
 
-module _ (input : List ℕ) (r r' : Reading) (left left' line : Option (List ℕ)) (gives : Gives r r' left left' line) (old mid new : Watched) (before between now : Option (List ℕ))
-    (sends : Sends MayAnswerLive followed_after (unless_empty line) mid new between now) (g : Answered input (unread r left) r.given old mid before between) where
+module _ (input : List ℕ) (r r' : Reading) (left left' line : Option (List ℕ)) (gives : Gives r r' left left' line) (old mid new : Watched)
+    (before between now : Option (List ℕ))
+    (sends : Sends MayAnswerLive followed_after (unless_empty line) mid new between now)
+    (g : Answered input (unread r left) r.given old mid before between) where
   it_passes : Passed input g.front g.rest (unread r' left') r'.given line
   it_passes = passes input g.front g.rest r r' left left' line g.told_rest g.counted g.begins gives
 
   answered_line : Answered input (unread r' left') r'.given old new before now
   answered_line =
       let piece = first_piece g.rest in
-      let both : told (g.front ++ piece) ≡ told g.front ++ unless_empty line = told_more g.front piece line it_passes.whole (piece_line g.rest line it_passes.lines_are) in
+      let both : told (g.front ++ piece) ≡ told g.front ++ unless_empty line = told_more g.front piece line it_passes.whole
+      (piece_line g.rest line it_passes.lines_are) in
       let L : List (Option (List ℕ)) → Type 0 = λ l. Sends MayAnswerLive followed_after l old new before now in
       record {
         front = g.front ++ piece;
@@ -58,11 +62,13 @@ module _ (input : List ℕ) (r r' : Reading) (left left' line : Option (List ℕ
         begins = it_passes.begins;
         told_rest = it_passes.told_rest;
         counted = it_passes.counted;
-        sends = subst L (sym both) (sends_both MayAnswerLive followed_after (told g.front) (unless_empty line) old mid new before between now g.sends sends);
+        sends = subst L (sym both) (sends_both MayAnswerLive followed_after (told g.front)
+            (unless_empty line) old mid new before between now g.sends sends);
       }
 
 -- where no line is left, all are
-answered_all : (input : List ℕ) (bytes : Option (List ℕ)) (given : ℕ) (old new : Watched) (before now : Option (List ℕ)) → IfSome (told_lines bytes) (λ all. all ≡ [])
+answered_all : (input : List ℕ) (bytes : Option (List ℕ)) (given : ℕ) (old new : Watched) (before now : Option (List ℕ))
+    → IfSome (told_lines bytes) (λ all. all ≡ [])
     → Answered input bytes given old new before now → Sends MayAnswerLive followed_after (told input) old new before now
 answered_all input bytes given old new before now none g =
     let P : Option (List ℕ) → Type 0 = λ b. IfSome (told_lines b) (λ all. all ≡ []) in
@@ -76,44 +82,58 @@ answered_all input bytes given old new before now none g =
 abbrev pub FarAnswered : Option (List ℕ) → Option (List ℕ) → ℕ → Watched → Watched → Option (List ℕ) → Option (List ℕ) → Type 0
 FarAnswered o bytes given old new before now = IfSome o (λ input. Answered input bytes given old new before now)
 
-pub far_answered_first : (o : Option (List ℕ)) (r : Reading) (at : Watched) (before : Option (List ℕ)) → r ≡ unread_input → FarAnswered o (unread r o) r.given at at before before
+pub far_answered_first : (o : Option (List ℕ)) (r : Reading) (at : Watched) (before : Option (List ℕ)) → r ≡ unread_input
+    → FarAnswered o (unread r o) r.given at at before before
 far_answered_first None r at before fresh = tt
 far_answered_first (Some input) r at before fresh = answered_first input r at before fresh
 
-pub far_answered_kept : (o bytes : Option (List ℕ)) (given : ℕ) (old new new' : Watched) (before now now' : Option (List ℕ)) → new' ≡ new → now' ≡ now
+pub far_answered_kept : (o bytes : Option (List ℕ)) (given : ℕ) (old new new' : Watched) (before now now' : Option (List ℕ)) → new' ≡ new
+    → now' ≡ now
     → FarAnswered o bytes given old new before now → FarAnswered o bytes given old new' before now'
 far_answered_kept o bytes given old new new' before now now' same unsent far =
     let S : Watched → Type 0 = λ s. FarAnswered o bytes given old s before now' in
     let N : Option (List ℕ) → Type 0 = λ n. FarAnswered o bytes given old new before n in
     subst S (sym same) (subst N (sym unsent) far)
 
-pub far_answered_line : (o : Option (List ℕ)) (r r' : Reading) (left left' line : Option (List ℕ)) → Gives r r' left left' line → (old mid new : Watched) (before between now : Option (List ℕ))
-    → Sends MayAnswerLive followed_after (unless_empty line) mid new between now → FarAnswered o (unread r left) r.given old mid before between → FarAnswered o (unread r' left') r'.given old new before now
+pub far_answered_line : (o : Option (List ℕ)) (r r' : Reading) (left left' line : Option (List ℕ)) → Gives r r' left left' line
+    → (old mid new : Watched) (before between now : Option (List ℕ))
+    → Sends MayAnswerLive followed_after (unless_empty line) mid new between now
+    → FarAnswered o (unread r left) r.given old mid before between → FarAnswered o (unread r' left') r'.given old new before now
 far_answered_line None r r' left left' line gives old mid new before between now sends far = tt
-far_answered_line (Some input) r r' left left' line gives old mid new before between now sends far = answered_line input r r' left left' line gives old mid new before between now sends far
+far_answered_line (Some input) r r' left left' line gives old mid new before between now sends far = answered_line input r r' left left'
+    line gives old mid new before between now sends far
 
-pub answered_far : (o bytes : Option (List ℕ)) (given : ℕ) (old new : Watched) (before now : Option (List ℕ)) → IfSome (told_lines bytes) (λ all. all ≡ []) → FarAnswered o bytes given old new before now
+pub answered_far : (o bytes : Option (List ℕ)) (given : ℕ) (old new : Watched) (before now : Option (List ℕ))
+    → IfSome (told_lines bytes) (λ all. all ≡ []) → FarAnswered o bytes given old new before now
     → IfSome o (λ input. Sends MayAnswerLive followed_after (told input) old new before now)
 answered_far None bytes given old new before now none far = tt
 answered_far (Some input) bytes given old new before now none far = answered_all input bytes given old new before now none far
 
 -- ---- a page that is called damaged
 
-module _ (input : List ℕ) (r r' : Reading) (left left' line : Option (List ℕ)) (gives : Gives r r' left left' line) (old mid : Watched) (before between now : Option (List ℕ)) (is_told : Type 0) (count : ℕ) (image : Image) (page : ℕ)
-    (blames : BlamesFirst MayAnswerLive followed_after Blames (unless_empty line) mid between now is_told count image page) (g : Answered input (unread r left) r.given old mid before between) where
+module _ (input : List ℕ) (r r' : Reading) (left left' line : Option (List ℕ)) (gives : Gives r r' left left' line) (old mid : Watched)
+    (before between now : Option (List ℕ)) (is_told : Type 0) (count : ℕ) (image : Image) (page : ℕ)
+    (blames : BlamesFirst MayAnswerLive followed_after Blames (unless_empty line) mid between now is_told count image page)
+    (g : Answered input (unread r left) r.given old mid before between) where
   blamed_line : BlamesFirst MayAnswerLive followed_after Blames (told input) old before now is_told count image page
   blamed_line =
       let passed = passes input g.front g.rest r r' left left' line g.told_rest g.counted g.begins gives in
       let later = after_first is_line_feed g.rest in
       let parts : told input ≡ told g.front ++ (unless_empty line ++ told later) =
-      ap told g.begins.split ∙ told_behind g.front g.rest passed.whole ∙ ap (λ l. told g.front ++ filter says l) passed.lines_are ∙ ap (λ l. told g.front ++ l) (filter-append says (line ∷ []) (lines later)) in
-      let L : List (Option (List ℕ)) → Type 0 = λ l. BlamesFirst MayAnswerLive followed_after Blames l old before now is_told count image page in
-      subst L (sym parts) (blames_behind MayAnswerLive followed_after Blames is_told count image page (told g.front) (unless_empty line ++ told later) old mid before between now g.sends
+      ap told g.begins.split ∙ told_behind g.front g.rest passed.whole ∙ ap (λ l. told g.front ++ filter says l) passed.lines_are
+      ∙ ap (λ l. told g.front ++ l) (filter-append says (line ∷ []) (lines later)) in
+      let L : List (Option (List ℕ)) → Type 0 = λ l.
+      BlamesFirst MayAnswerLive followed_after Blames l old before now is_told count image page in
+      subst L (sym parts) (blames_behind MayAnswerLive followed_after Blames is_told count image page (told g.front)
+      (unless_empty line ++ told later) old mid before between now g.sends
       (blames_before MayAnswerLive followed_after Blames is_told count image page (unless_empty line) (told later) mid between now blames))
 
-pub far_blamed : (o : Option (List ℕ)) (r r' : Reading) (left left' line : Option (List ℕ)) → Gives r r' left left' line → (old mid : Watched) (before between now : Option (List ℕ)) (is_told : Type 0) (count : ℕ) (image : Image) (e : End)
-    → OfDamaged (BlamesFirst MayAnswerLive followed_after Blames (unless_empty line) mid between now is_told count image) e → FarAnswered o (unread r left) r.given old mid before between
-    → OfDamaged (λ page. IfSome o (λ input. BlamesFirst MayAnswerLive followed_after Blames (told input) old before now is_told count image page)) e
+pub far_blamed : (o : Option (List ℕ)) (r r' : Reading) (left left' line : Option (List ℕ)) → Gives r r' left left' line
+    → (old mid : Watched) (before between now : Option (List ℕ)) (is_told : Type 0) (count : ℕ) (image : Image) (e : End)
+    → OfDamaged (BlamesFirst MayAnswerLive followed_after Blames (unless_empty line) mid between now is_told count image) e
+    → FarAnswered o (unread r left) r.given old mid before between
+    → OfDamaged (λ page. IfSome o (λ input. BlamesFirst MayAnswerLive followed_after Blames
+    (told input) old before now is_told count image page)) e
 far_blamed None r r' left left' line gives old mid before between now is_told count image (ends.DamagedPage page) blames far = tt
 far_blamed (Some input) r r' left left' line gives old mid before between now is_told count image (ends.DamagedPage page) blames far =
     blamed_line input r r' left left' line gives old mid before between now is_told count image page blames far

@@ -27,7 +27,8 @@ pub record Client (is_sent : Frame → Bool) (some : List Session → List Sessi
       → Follows is_sent some frame old.state new.state (IsPictureOf old.state new.state frame)
 
 abbrev pub Sound : Type 0
-Sound = (line : Option (List ℕ)) (frame : Frame) (old new : LiveState) → IsSound old.state → LiveReplied line frame old new → IsSound new.state
+Sound = (line : Option (List ℕ)) (frame : Frame) (old new : LiveState) → IsSound old.state → LiveReplied line frame old new
+    → IsSound new.state
 
 -- what holds of lines and pushes, whichever frames a client is sent
 pub record Goes : Type 0 where
@@ -72,7 +73,12 @@ module _ (is_sent : Frame → Bool) (some : List Session → List Session) (clie
       let pushed = lived.1 in
       let shown = follows_so is_sent some x old.state lived.0.state (IsPictureOf old.state lived.0.state x)
       (λ d. ShowsPush x d old lived.0) (client.pushes x old lived.0 sound pushed)
-      (λ d h after accepted picture. record { pushed = pushed; shows = f.push_shows x old lived.0 well pushed; book = goes.push_book x old lived.0 pushed; picture = picture }) in
+      (λ d h after accepted picture. record {
+        pushed = pushed;
+        shows = f.push_shows x old lived.0 well pushed;
+        book = goes.push_book x old lived.0 pushed;
+        picture = picture;
+      }) in
       let one = next is_sent some x xs old.state lived.0.state (λ d. ShowsPush x d old lived.0) drawings holdings now shown m a in
       let later = follows goes f es xs one.later lived.0 new one.holdings now short pushed.replied.2
       (f.push_well x old lived.0 well pushed) lived.2 one.mirrors one.others in
@@ -120,13 +126,15 @@ pub runs_drawn : Laws → Following
     → PicturesLines (told input) frames drawings old new × Mirrors new.state.sessions now
 runs_drawn laws f input frames drawings old new now sound first by a =
     let A : List Frame → Type 0 = λ l. AcceptsAll [] l drawings now in
-    some_drawn each (λ ss. ss) (all_client laws) (record { line_sound = laws.line_sound; push_book = laws.push_book }) f input frames drawings old new now sound first (first_mirrors old first) by (subst A (sym (all_sent frames)) a)
+    some_drawn each (λ ss. ss) (all_client laws) (record { line_sound = laws.line_sound; push_book = laws.push_book }) f input frames
+    drawings old new now sound first (first_mirrors old first) by (subst A (sym (all_sent frames)) a)
 
 pub runs_accepted : Laws → (lines : List (Option (List ℕ))) (frames : List Frame) (old new : LiveState) → IsSound old.state
     → IsFirst old → LivesBy lines frames old new → NoneRejected frames
 runs_accepted laws lines frames old new sound first by =
     let N : List Frame → Type 0 = λ l. NoneRejected l in
-    subst N (all_sent frames) (some_accepted each (λ ss. ss) (all_client laws) laws.line_sound lines frames old new sound (first_mirrors old first) by)
+    subst N (all_sent frames) (some_accepted each (λ ss. ss) (all_client laws) laws.line_sound lines frames old new sound
+    (first_mirrors old first) by)
 
 own_first : (n : ℕ) (live : LiveState) → IsFirst live → Mirrors (only n live.state.sessions) []
 own_first n live first = ap (λ ss. map mirrored (only n ss)) (sym first.sessions)

@@ -13,7 +13,8 @@ pub input_fault_is : (f : LineFault) → end_fault (input_end f) ≡ serve_fault
 input_fault_is fault.ReadFault = refl
 input_fault_is fault.InputTooLong = refl
 
-pub input_long_is : (f : LineFault) (end : End) → end ≡ input_end f → ◌≡◌ {A = Result ⊤ End} (Err end) (Err InputTooLong) → f ≡ fault.InputTooLong
+pub input_long_is : (f : LineFault) (end : End) → end ≡ input_end f → ◌≡◌ {A = Result ⊤ End} (Err end) (Err InputTooLong)
+    → f ≡ fault.InputTooLong
 input_long_is fault.ReadFault end is same = cc
 input_long_is fault.InputTooLong end is same = refl
 

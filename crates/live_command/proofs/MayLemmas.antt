@@ -11,18 +11,26 @@ use Rattle.live_service.specs.Kinds.{AnswerWithPushes, MayAnswerLive}
 use Rattle.live_service.specs.LiveReplies.{LiveState, LiveReplied}
 use Rattle.live_service.specs.Showing.{IsFirst}
 
-module _ (own : (line : Option (List ℕ)) (frame : Frame) (old new : LiveState) → LiveReplied line frame old new → MayAnswerLive line frame) (f : Following) where
-  all_may : (events : List Event) (frames : List Frame) (old new : LiveState) → AreShort (lines_in events) → FollowsWell old → Lives old events frames new → AnswerWithPushes MayAnswerLive (lines_in events) frames
+module _ (own : (line : Option (List ℕ)) (frame : Frame) (old new : LiveState) → LiveReplied line frame old new
+    → MayAnswerLive line frame) (f : Following) where
+  all_may : (events : List Event) (frames : List Frame) (old new : LiveState) → AreShort (lines_in events) → FollowsWell old
+      → Lives old events frames new → AnswerWithPushes MayAnswerLive (lines_in events) frames
   all_may [] [] old new short well lived = tt
   all_may [] (x ∷ xs) old new short well lived = absurd lived
   all_may (answer line ∷ es) [] old new short well lived = absurd lived
   all_may (push ∷ es) [] old new short well lived = absurd lived
   all_may (answer line ∷ es) (x ∷ xs) old new short well lived =
-      inl (own line x old lived.0 lived.2, all_may es xs lived.0 new short.1 (answered_well f line x old lived.0 short.0 well lived.2) lived.3)
+      inl (
+        own line x old lived.0 lived.2,
+        all_may es xs lived.0 new short.1
+            (answered_well f line x old lived.0 short.0 well lived.2) lived.3,
+      )
   all_may (push ∷ es) (x ∷ xs) old new short well lived =
-      push_first MayAnswerLive (lines_in es) x xs (shows_push x (f.push_shows x old lived.0 well lived.1)) (all_may es xs lived.0 new short (f.push_well x old lived.0 well lived.1) lived.2)
+      push_first MayAnswerLive (lines_in es) x xs (shows_push x (f.push_shows x old lived.0 well lived.1))
+      (all_may es xs lived.0 new short (f.push_well x old lived.0 well lived.1) lived.2)
 
-  pub runs_may : (input : List ℕ) (frames : List Frame) (old new : LiveState) → IsFirst old → LivesBy (told input) frames old new → AnswerWithPushes MayAnswerLive (told input) frames
+  pub runs_may : (input : List ℕ) (frames : List Frame) (old new : LiveState) → IsFirst old → LivesBy (told input) frames old new
+      → AnswerWithPushes MayAnswerLive (told input) frames
   runs_may input frames old new first by =
       let A : List (Option (List ℕ)) → Type 0 = λ l. AreShort l in
       let W : List (Option (List ℕ)) → Type 0 = λ l. AnswerWithPushes MayAnswerLive l frames in

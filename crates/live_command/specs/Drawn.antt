@@ -24,7 +24,8 @@ ArePictured is_sent old (push ∷ later) (frame ∷ frames) drawings new =
     × IsDrawn (is_sent frame) (λ drawing. ShowsPush frame drawing old between) drawn × ArePictured is_sent between later frames rest new
 
 -- these lines are answered and pictured so, and so are the pushes behind them
-pub record PicturesSome (is_sent : Frame → Bool) (lines : List (Option (List ℕ))) (frames : List Frame) (drawings : List (Option Canvas)) (old new : LiveState) : Type 0 where
+pub record PicturesSome (is_sent : Frame → Bool) (lines : List (Option (List ℕ))) (frames : List Frame) (drawings : List (Option Canvas))
+    (old new : LiveState) : Type 0 where
   pub events : List Event
   pub lines_are : lines_in events ≡ lines
   pub pictured : ArePictured is_sent old events frames drawings new

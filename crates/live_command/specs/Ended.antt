@@ -22,23 +22,28 @@ use Rattle.live_command.specs.Running.{EndsSo, IsAhead, SendsAll, SendsLines, Se
 
 -- all lines of the input are answered, all pushes are made, and all these frames were sent
 abbrev pub LivesAll : ℕ → View → View → List ℕ → Option (List ℕ) → Option (List ℕ) → Type 0
-LivesAll count old new input before now = OfBook count old (λ total book. SendsAll (Holds count total new) input (begun_live total book) before now)
+LivesAll count old new input before now = OfBook count old
+    (λ total book. SendsAll (Holds count total new) input (begun_live total book) before now)
 
 -- some first lines are answered, and all these frames were sent, or all but the last one
 abbrev pub LivesSome : ℕ → View → View → List ℕ → Option (List ℕ) → Option (List ℕ) → Type 0
-LivesSome count old new input before now = OfBook count old (λ total book. SendsSome (Holds count total new) input (begun_live total book) before now)
+LivesSome count old new input before now = OfBook count old
+    (λ total book. SendsSome (Holds count total new) input (begun_live total book) before now)
 
 -- all lines whose line feeds were among the bytes taken are answered, and all their pushes made, where the bytes left are told
 abbrev pub LivesTaken : ℕ → View → View → List ℕ → Option (List ℕ) → Option (List ℕ) → Option (List ℕ) → Type 0
-LivesTaken count old new input left before now = OfBook count old (λ total book. SendsTaken (Holds count total new) input (begun_live total book) before now left)
+LivesTaken count old new input left before now = OfBook count old
+    (λ total book. SendsTaken (Holds count total new) input (begun_live total book) before now left)
 
 -- those that ended among the first 2^32 bytes, and there is a byte more
 abbrev pub LivesWithin : ℕ → View → View → List ℕ → Option (List ℕ) → Option (List ℕ) → Type 0
-LivesWithin count old new input before now = OfBook count old (λ total book. SendsWithin (Holds count total new) input (begun_live total book) before now)
+LivesWithin count old new input before now = OfBook count old
+    (λ total book. SendsWithin (Holds count total new) input (begun_live total book) before now)
 
 -- some first lines are answered, and of the last frame a part was sent
 abbrev pub LivesPart : ℕ → View → View → List ℕ → Option (List ℕ) → Option (List ℕ) → Type 0
-LivesPart count old new input before now = OfBook count old (λ total book. SendsPart (Holds count total new) input (begun_live total book) before now)
+LivesPart count old new input before now = OfBook count old
+    (λ total book. SendsPart (Holds count total new) input (begun_live total book) before now)
 
 -- some first lines are answered, at a fault of the disk: what it holds then is said by the moments of the run
 abbrev pub LivesLines : ℕ → View → List ℕ → Option (List ℕ) → Option (List ℕ) → Type 0
@@ -48,7 +53,8 @@ LivesLines count old input before now = OfBook count old (λ total book. SendsLi
 -- at most one edit more.
 abbrev pub LeavesLived : ℕ → List ℕ → View → View → Type 0
 LeavesLived count input old new =
-    OfBook count old (λ total book. Since old new (λ image sent. IsAhead (λ after. RecoversTo count image total after) input (begun_live total book) (sent_now old) sent))
+    OfBook count old (λ total book. Since old new (λ image sent. IsAhead (λ after. RecoversTo count image total after) input
+    (begun_live total book) (sent_now old) sent))
 
 -- the lines and the pushes read no more blocks than they may, and no other block is read, from this count on
 abbrev pub ReadsFrom : ℕ → View → View → List ℕ → ℕ → Type 0

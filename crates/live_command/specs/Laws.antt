@@ -14,7 +14,8 @@ use Rattle.live_service.specs.Showing.{IsFirst}
 use Rattle.hosted_lines.specs.Lives.{LivesBy}
 use Rattle.live_service.specs.LiveReplies.{LiveState}
 
--- The drawings of all frames of a run are the pictures of the book: of each line's frame as it is at that line, of each push as it is behind the edit.
+-- The drawings of all frames of a run are the pictures of the book: of each line's frame as it is at that line, of each push as it
+-- is behind the edit.
 abbrev pub RunsDrawTheBook : Type 0
 RunsDrawTheBook =
     (input : List ℕ) (frames : List Frame) (drawings : List (Option Canvas)) (old new : LiveState) (now : List Holding)

@@ -35,9 +35,11 @@ use store_commands::opening_end;
 pub fn live<W: World>(alloc: Global, world: W) -> (End, W)
     ensures ends { LiveEnds (W.view world) (W.view result.1) (traffic W.left W.sent W.read_faults W.send_faults world result.1) result.0 }
     // whatever the disk holds, at the end each line of the input was answered, and all other frames are pushes
-    ensures answers { result.0 ≡ End.Done → IfSome (W.left world) (λ input. SendsAnswers MayAnswerLive followed_after input (W.sent world) (W.sent result.1)) }
+    ensures answers { result.0 ≡ End.Done → IfSome (W.left world)
+        (λ input. SendsAnswers MayAnswerLive followed_after input (W.sent world) (W.sent result.1)) }
     // and a page of an open store that is called damaged is so for the line behind the answered ones, or for a push
-    ensures blames { BlamesOnDisk MayAnswerLive followed_after Blames (page_count (W.view world).size) (W.view result.1) (W.left world) (W.sent world) (W.sent result.1) result.0 }
+    ensures blames { BlamesOnDisk MayAnswerLive followed_after Blames (page_count (W.view world).size) (W.view result.1) (W.left world)
+        (W.sent world) (W.sent result.1) result.0 }
     // blocks are read by the opening, the lines and the pushes alone
     ensures reads { IfSome (W.left world) (λ input. ReadsLiving (W.view world) (W.view result.1) input) }
     // and it is synced by the opening, and for edits alone
@@ -55,12 +57,20 @@ pub fn live<W: World>(alloc: Global, world: W) -> (End, W)
 /// The same over a store that is open: how that ended, and the disk.
 fn serve_store<W: World>(alloc: Global, store: Store<GatePages<W>>) -> (End, W)
     requires { AreSound (stored.pages store) }
-    ensures serves { let at = stored.pages store in Served (count at) (W.view (disk at)) (W.view result.1) (traffic W.left W.sent W.read_faults W.send_faults (disk at) result.1) result.0 }
-    ensures answers { result.0 ≡ End.Done → IfSome (W.left (disk (stored.pages store))) (λ input. SendsAnswers MayAnswerLive followed_after input (W.sent (disk (stored.pages store))) (W.sent result.1)) }
-    ensures blames { let at = stored.pages store in BlamesOnDisk MayAnswerLive followed_after Blames (count at) (W.view result.1) (W.left (disk at)) (W.sent (disk at)) (W.sent result.1) result.0 }
+    ensures serves { let at = stored.pages store in
+        Served (count at) (W.view (disk at)) (W.view result.1)
+        (traffic W.left W.sent W.read_faults W.send_faults (disk at) result.1) result.0 }
+    ensures answers { result.0 ≡ End.Done → IfSome (W.left (disk (stored.pages store)))
+        (λ input. SendsAnswers MayAnswerLive followed_after input (W.sent (disk (stored.pages store))) (W.sent result.1)) }
+    ensures blames { let at = stored.pages store in
+        BlamesOnDisk MayAnswerLive followed_after Blames (count at) (W.view result.1) (W.left (disk at)) (W.sent (disk at))
+        (W.sent result.1) result.0 }
     ensures faults { CountsFault (end_fault result.0) (W.view (disk (stored.pages store))) (W.view result.1) }
-    ensures reads { let pages = stored.pages store in IfSome (W.left (disk pages)) (λ input. ReadsFrom (count pages) (W.view (disk pages)) (W.view result.1) input (W.view (disk pages)).reads) }
-    ensures syncs { let pages = stored.pages store in IfSome (W.left (disk pages)) (λ input. SyncsLines input (W.view (disk pages)).syncs (W.view result.1).syncs) }
+    ensures reads { let pages = stored.pages store in
+        IfSome (W.left (disk pages)) (λ input. ReadsFrom (count pages) (W.view (disk pages)) (W.view result.1) input
+        (W.view (disk pages)).reads) }
+    ensures syncs { let pages = stored.pages store in
+        IfSome (W.left (disk pages)) (λ input. SyncsLines input (W.view (disk pages)).syncs (W.view result.1).syncs) }
 {
     match Service::new(alloc, store) {
         Ok(service) => serve_service(alloc, service),
@@ -72,12 +82,20 @@ fn serve_store<W: World>(alloc: Global, store: Store<GatePages<W>>) -> (End, W)
 fn serve_service<W: World>(alloc: Global, service: Service<GatePages<W>>) -> (End, W)
     requires sound { AreSound (shown.pages service) }
     requires alone { shown.sessions service ≡ [] }
-    ensures serves { let at = shown.pages service in Served (count at) (W.view (disk at)) (W.view result.1) (traffic W.left W.sent W.read_faults W.send_faults (disk at) result.1) result.0 }
-    ensures answers { result.0 ≡ End.Done → IfSome (W.left (disk (shown.pages service))) (λ input. SendsAnswers MayAnswerLive followed_after input (W.sent (disk (shown.pages service))) (W.sent result.1)) }
-    ensures blames { let at = shown.pages service in BlamesOnDisk MayAnswerLive followed_after Blames (count at) (W.view result.1) (W.left (disk at)) (W.sent (disk at)) (W.sent result.1) result.0 }
+    ensures serves { let at = shown.pages service in
+        Served (count at) (W.view (disk at)) (W.view result.1)
+        (traffic W.left W.sent W.read_faults W.send_faults (disk at) result.1) result.0 }
+    ensures answers { result.0 ≡ End.Done → IfSome (W.left (disk (shown.pages service)))
+        (λ input. SendsAnswers MayAnswerLive followed_after input (W.sent (disk (shown.pages service))) (W.sent result.1)) }
+    ensures blames { let at = shown.pages service in
+        BlamesOnDisk MayAnswerLive followed_after Blames (count at) (W.view result.1) (W.left (disk at)) (W.sent (disk at))
+        (W.sent result.1) result.0 }
     ensures faults { CountsFault (end_fault result.0) (W.view (disk (shown.pages service))) (W.view result.1) }
-    ensures reads { let pages = shown.pages service in IfSome (W.left (disk pages)) (λ input. ReadsFrom (count pages) (W.view (disk pages)) (W.view result.1) input (W.view (disk pages)).reads) }
-    ensures syncs { let pages = shown.pages service in IfSome (W.left (disk pages)) (λ input. SyncsLines input (W.view (disk pages)).syncs (W.view result.1).syncs) }
+    ensures reads { let pages = shown.pages service in
+        IfSome (W.left (disk pages)) (λ input. ReadsFrom (count pages) (W.view (disk pages)) (W.view result.1) input
+        (W.view (disk pages)).reads) }
+    ensures syncs { let pages = shown.pages service in
+        IfSome (W.left (disk pages)) (λ input. SyncsLines input (W.view (disk pages)).syncs (W.view result.1).syncs) }
 {
     service.is_sound();
     let mut live = Live::new(alloc, ServiceStepper::new(service));

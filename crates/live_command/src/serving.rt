@@ -43,7 +43,8 @@ pub fn serve_live<P: PageWorld>(alloc: Global, live: &mut Live<ServiceStepper<P>
     // a page that is called damaged is so for the line behind the answered ones, or for a push
     ensures blames { BlamesInput P.Streams MayAnswerLive followed_after Blames live.old live.new result }
     // each frame names sessions that are open by those before it, and after `Done` one answers each line; the others are pushes
-    ensures answers { result ≡ End.Done → IfSome (P.left (pages live.old)) (λ input. SendsFor P.Streams MayAnswerLive followed_after (told input) live.old live.new) }
+    ensures answers { result ≡ End.Done → IfSome (P.left (pages live.old))
+        (λ input. SendsFor P.Streams MayAnswerLive followed_after (told input) live.old live.new) }
     ensures whole { result ≡ End.Done → IsReadUp (P.left (pages live.old)) (P.left (pages live.new)) }
     ensures long { result ≡ End.InputTooLong → IfSome (P.left (pages live.old)) (λ input. 2 ^ 32 < length input) }
     ensures goes { Goes (side_of P.Streams live.old) (side_of P.Streams live.new) }
@@ -77,7 +78,8 @@ fn answer_lines<P: PageWorld>(
     ensures reads { its.ForBook live.old (λ total book. ReadsFew P.Streams total book live.old live.new) }
     ensures syncs { IfSome (P.left (pages live.old)) (λ input. SyncsLines input (its.view live.old).syncs (its.view live.new).syncs) }
     ensures blames { IfErr result (BlamesInput P.Streams MayAnswerLive followed_after Blames live.old live.new) }
-    ensures answers { OnOk result (IfSome (P.left (pages live.old)) (λ input. SendsFor P.Streams MayAnswerLive followed_after (told input) live.old live.new)) }
+    ensures answers { OnOk result (IfSome (P.left (pages live.old))
+        (λ input. SendsFor P.Streams MayAnswerLive followed_after (told input) live.old live.new)) }
     ensures whole { OnOk result (IsReadUp (P.left (pages live.old)) (P.left (pages live.new))) }
     ensures long { result ≡ Err End.InputTooLong → IfSome (P.left (pages live.old)) (λ input. 2 ^ 32 < length input) }
     ensures goes { Goes (side_of P.Streams live.old) (side_of P.Streams live.new) }

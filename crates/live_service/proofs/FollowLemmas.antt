@@ -1,5 +1,6 @@
 -- What holds of each frame of live views, and that following goes on behind a line that is answered.
-use Rattle.std.proofs.Common.{◌≡◌, ℕ, ◌≤◌, Bool, true, false, if◌then◌else◌, List, [], ◌∷◌, length, map, Option, None, Some, refl, sym, ap, subst, arith}
+use Rattle.std.proofs.Common.{◌≡◌, ℕ, ◌≤◌, Bool, true, false, if◌then◌else◌, List, [], ◌∷◌, length, map, Option, None, Some, refl, sym, ap}
+use Rattle.std.proofs.Common.{subst, arith}
 use Rattle.std.specs.Prelude.{⊤, All, nat_lt, ◌-◌, ◌==◌, take, slice_index}
 use Rattle.std.specs.List.{filter}
 use Rattle.std.proofs.lemmas.Bool.Decides.{nat_tests}
@@ -21,15 +22,21 @@ use Rattle.zoom_session.specs.declared.session.Session.{Session}
 -- ---- what holds of each single frame
 
 pub record Laws : Type 0 where
-  pub line_draws : (line : Option (List ℕ)) (frame : Frame) (old new : LiveState) (holdings : List Holding) → IsSound old.state → LiveReplied line frame old new → Mirrors old.state.sessions holdings → DrawsTheBook frame old.state new.state holdings
-  pub line_accepts : (line : Option (List ℕ)) (frame : Frame) (old new : LiveState) (holdings : List Holding) → IsSound old.state → LiveReplied line frame old new → Mirrors old.state.sessions holdings → OnlyLacksMemory frame holdings
-  pub line_sound : (line : Option (List ℕ)) (frame : Frame) (old new : LiveState) → IsSound old.state → LiveReplied line frame old new → IsSound new.state
-  pub push_draws : (frame : Frame) (old new : LiveState) (holdings : List Holding) → IsSound old.state → Pushed frame old new → Mirrors old.state.sessions holdings → DrawsTheBook frame old.state new.state holdings
-  pub push_accepts : (frame : Frame) (old new : LiveState) (holdings : List Holding) → IsSound old.state → Pushed frame old new → Mirrors old.state.sessions holdings → OnlyLacksMemory frame holdings
+  pub line_draws : (line : Option (List ℕ)) (frame : Frame) (old new : LiveState) (holdings : List Holding) → IsSound old.state
+      → LiveReplied line frame old new → Mirrors old.state.sessions holdings → DrawsTheBook frame old.state new.state holdings
+  pub line_accepts : (line : Option (List ℕ)) (frame : Frame) (old new : LiveState) (holdings : List Holding) → IsSound old.state
+      → LiveReplied line frame old new → Mirrors old.state.sessions holdings → OnlyLacksMemory frame holdings
+  pub line_sound : (line : Option (List ℕ)) (frame : Frame) (old new : LiveState) → IsSound old.state → LiveReplied line frame old new
+      → IsSound new.state
+  pub push_draws : (frame : Frame) (old new : LiveState) (holdings : List Holding) → IsSound old.state → Pushed frame old new
+      → Mirrors old.state.sessions holdings → DrawsTheBook frame old.state new.state holdings
+  pub push_accepts : (frame : Frame) (old new : LiveState) (holdings : List Holding) → IsSound old.state → Pushed frame old new
+      → Mirrors old.state.sessions holdings → OnlyLacksMemory frame holdings
   pub push_book : (frame : Frame) (old new : LiveState) → Pushed frame old new → new.state.book ≡ old.state.book
 
 pub record Following : Type 0 where
-  pub line_well : (line : List ℕ) (frame : Frame) (old new : LiveState) → FollowsWell old → LiveReplied (line_text line) frame old new → FollowsWell new
+  pub line_well : (line : List ℕ) (frame : Frame) (old new : LiveState) → FollowsWell old → LiveReplied (line_text line) frame old new
+      → FollowsWell new
   pub push_well : (frame : Frame) (old new : LiveState) → FollowsWell old → Pushed frame old new → FollowsWell new
   pub push_shows : (frame : Frame) (old new : LiveState) → FollowsWell old → Pushed frame old new → ShowsView frame
 
@@ -63,7 +70,8 @@ short_told [] = tt
 short_told (part ∷ parts) =
     let first : IsShort (text_of part) = short_by part (nat_lt 8192 (length part)) refl in
     let later = short_told parts in
-    elim (says (text_of part)) as (λ b. AreShort (if b then text_of part ∷ filter says (map text_of parts) else filter says (map text_of parts))) [
+    elim (says (text_of part)) as (λ b. AreShort (if b then text_of part ∷ filter says (map text_of parts)
+    else filter says (map text_of parts))) [
       | true ↦ (first, later)
       | false ↦ later
     ]
@@ -88,11 +96,13 @@ long_well frame old new well r =
       pending = subst E (sym r.idle) (no_number new.state.sessions);
     }
 
-text_is : (text : List ℕ) (test : Bool) → nat_lt 8192 (length text) ≡ test → length text ≤ 8192 → (if test then None else Some text) ≡ Some text
+text_is : (text : List ℕ) (test : Bool) → nat_lt 8192 (length text) ≡ test → length text ≤ 8192
+    → (if test then None else Some text) ≡ Some text
 text_is text true test few = absurd (grind (arith, nat_tests, test, few))
 text_is text false test few = refl
 
-pub answered_well : Following → (line : Option (List ℕ)) (frame : Frame) (old new : LiveState) → IsShort line → FollowsWell old → LiveReplied line frame old new → FollowsWell new
+pub answered_well : Following → (line : Option (List ℕ)) (frame : Frame) (old new : LiveState) → IsShort line → FollowsWell old
+    → LiveReplied line frame old new → FollowsWell new
 answered_well f None frame old new short well r = long_well frame old new well r
 answered_well f (Some text) frame old new short well r =
     let L : Option (List ℕ) → Type 0 = λ o. LiveReplied o frame old new in
@@ -101,7 +111,10 @@ answered_well f (Some text) frame old new short well r =
 pub first_well : (live : LiveState) → IsFirst live → FollowsWell live
 first_well live first =
     let N : List ℕ → Type 0 = λ l. All (CanFollow live.state.sessions) l in
-    record { followed = subst N (sym first.followed) (no_number live.state.sessions); pending = subst N (sym first.pending) (no_number live.state.sessions) }
+    record {
+      followed = subst N (sym first.followed) (no_number live.state.sessions);
+      pending = subst N (sym first.pending) (no_number live.state.sessions);
+    }
 
 pub first_mirrors : (live : LiveState) → IsFirst live → Mirrors live.state.sessions []
 first_mirrors live first = ap (λ ss. map mirrored ss) (sym first.sessions)

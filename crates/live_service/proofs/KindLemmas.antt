@@ -25,14 +25,16 @@ use Rattle.zoom_session.specs.Sessions.{is_open, session_of}
 -- ---- lines
 
 -- one that asks something of live views isn't too long
-pub may_own : (line : List ℕ) (asked : LiveLine) (frame : Frame) → live_line line ≡ asked → (Other ≡ asked → ⊥) → MayAnswerAsked asked line frame
+pub may_own : (line : List ℕ) (asked : LiveLine) (frame : Frame) → live_line line ≡ asked → (Other ≡ asked → ⊥)
+    → MayAnswerAsked asked line frame
     → MayAnswerLive (line_text line) frame
 may_own line asked frame is other may =
     let L : Option (List ℕ) → Type 0 = λ o. MayAnswerLive o frame in
     let A : LiveLine → Type 0 = λ a. MayAnswerAsked a line frame in
     subst L (sym (short_by line asked is other)) (subst A (sym is) may)
 
-other_by : (line : List ℕ) (frame : Frame) (test : Bool) → nat_lt 8192 (length line) ≡ test → live_line line ≡ Other → MayAnswerLine (line_text line) frame
+other_by : (line : List ℕ) (frame : Frame) (test : Bool) → nat_lt 8192 (length line) ≡ test → live_line line ≡ Other
+    → MayAnswerLine (line_text line) frame
     → MayAnswerLive (line_text line) frame
 other_by line frame true test asked may =
     let text : line_text line ≡ None = ap (λ (b : Bool). if b then None else Some line) test in
@@ -46,7 +48,8 @@ other_by line frame false test asked may =
     let A : LiveLine → Type 0 = λ a. MayAnswerAsked a line frame in
     subst L (sym text) (subst A (sym asked) (subst M text may))
 
-pub may_other : (line : List ℕ) (frame : Frame) → live_line line ≡ Other → MayAnswerLine (line_text line) frame → MayAnswerLive (line_text line) frame
+pub may_other : (line : List ℕ) (frame : Frame) → live_line line ≡ Other → MayAnswerLine (line_text line) frame
+    → MayAnswerLive (line_text line) frame
 may_other line frame asked may = other_by line frame (nat_lt 8192 (length line)) refl asked may
 
 -- ---- what a live service answers itself
@@ -73,7 +76,8 @@ follow_opens n on (Refused number a b) may m was = refl
 follow_opens n on (Live session now) may m was = refl
 follow_opens n on frame may m was = absurd may
 
-follow_names : (n : ℕ) (on : Bool) (frame : Frame) (sessions : List Session) → MayFollow n on frame → (frame ≡ Live n on → IsTrue (is_open n sessions)) → NamesOpen frame sessions
+follow_names : (n : ℕ) (on : Bool) (frame : Frame) (sessions : List Session) → MayFollow n on frame
+    → (frame ≡ Live n on → IsTrue (is_open n sessions)) → NamesOpen frame sessions
 follow_names n on (Refused number a b) sessions may there = tt
 follow_names n on (Live session now) sessions may there =
     let P : ℕ → Type 0 = λ s. IsTrue (is_open s sessions) in
@@ -120,8 +124,10 @@ shows_push frame shows = absurd shows
 
 -- ---- over a plain book
 
-module _ (own : (line : Option (List ℕ)) (frame : Frame) (old new : State) → RepliesToLine line frame old new → MayAnswerLine line frame) where
-  asked_may : (asked : LiveLine) (text : List ℕ) (frame : Frame) (old new : LiveState) → RepliesTo asked text frame old new → MayAnswerAsked asked text frame
+module _ (own : (line : Option (List ℕ)) (frame : Frame) (old new : State) → RepliesToLine line frame old new
+    → MayAnswerLine line frame) where
+  asked_may : (asked : LiveLine) (text : List ℕ) (frame : Frame) (old new : LiveState) → RepliesTo asked text frame old new
+      → MayAnswerAsked asked text frame
   asked_may (Follow n) text frame old new r =
       let M : Frame → Type 0 = λ f. MayFollow n true f in subst M (sym r.is) (may_follow n (session_of n old.state.sessions))
   asked_may (Unfollow n) text frame old new r =

@@ -15,12 +15,15 @@ use Rattle.zoom_session.specs.Sessions.{last_of, session_of}
 
 -- what a service answers to a line, and to a request, is one
 abbrev pub OneLine : Type 0
-OneLine = (line : Option (List ℕ)) (frame other : Frame) (old new behind : State) → RepliesToLine line frame old new → RepliesToLine line other old behind → (frame ≡ other) × (new ≡ behind)
+OneLine = (line : Option (List ℕ)) (frame other : Frame) (old new behind : State) → RepliesToLine line frame old new
+    → RepliesToLine line other old behind → (frame ≡ other) × (new ≡ behind)
 
 abbrev pub OneRequest : Type 0
-OneRequest = (request : Request) (frame other : Frame) (old new behind : State) → Replies request frame old new → Replies request other old behind → (frame ≡ other) × (new ≡ behind)
+OneRequest = (request : Request) (frame other : Frame) (old new behind : State) → Replies request frame old new
+    → Replies request other old behind → (frame ≡ other) × (new ≡ behind)
 
-pub same_live : (one other : LiveState) → one.state ≡ other.state → one.followed ≡ other.followed → one.pending ≡ other.pending → one ≡ other
+pub same_live : (one other : LiveState) → one.state ≡ other.state → one.followed ≡ other.followed → one.pending ≡ other.pending
+    → one ≡ other
 same_live one other state followed pending = λ i. record { state = state i; followed = followed i; pending = pending i }
 
 module _ (frame other : Frame) (old new behind : LiveState) where
@@ -28,7 +31,11 @@ module _ (frame other : Frame) (old new behind : LiveState) where
   Same = (frame ≡ other) × (new ≡ behind)
 
   itself : (reply : Frame) → AnswersItself reply frame old new → AnswersItself reply other old behind → Same
-  itself reply a b = (a.is ∙ sym b.is, same_live new behind (a.state ∙ sym b.state) (a.followed_now ∙ sym b.followed_now) (a.idle ∙ sym b.idle))
+  itself reply a b = (
+    a.is ∙ sym b.is,
+    same_live new behind (a.state ∙ sym b.state) (a.followed_now ∙ sym b.followed_now) (a.idle
+        ∙ sym b.idle),
+  )
 
   passes : OneLine → (text : List ℕ) → PassesOn text frame old new → PassesOn text other old behind → Same
   passes law text a b =
@@ -63,5 +70,6 @@ module _ (frame other : Frame) (old new behind : LiveState) where
       let last : a.last ≡ b.last = cc (lasts) in
       let P : ℕ → Type 0 = λ n. Replies (own_zoom n b.last) other old.state behind.state in
       let Q : ViewSpec → Type 0 = λ v. Replies (own_zoom a.session v) other old.state behind.state in
-      let both = law (own_zoom a.session a.last) frame other old.state new.state behind.state a.replied.0 (subst Q (sym last) (subst P (sym session) b.replied.0)) in
+      let both = law (own_zoom a.session a.last) frame other old.state new.state behind.state a.replied.0
+      (subst Q (sym last) (subst P (sym session) b.replied.0)) in
       (both.0, same_live new behind both.1 (a.followed_same ∙ sym b.followed_same) pending)

@@ -1,5 +1,6 @@
 -- One edit that is done as a group is the line that spells it, and groups have one answer and keep what can follow.
-use Rattle.std.proofs.Common.{◌≡◌, ◌∙◌, ◌≤◌, ℕ, Bool, false, List, [], ◌∷◌, length, Option, None, Some, Result, Ok, Err, if◌then◌else◌, refl, ap, sym, subst, arith}
+use Rattle.std.proofs.Common.{◌≡◌, ◌∙◌, ◌≤◌, ℕ, Bool, false, List, [], ◌∷◌, length, Option, None, Some, Result, Ok, Err, if◌then◌else◌}
+use Rattle.std.proofs.Common.{refl, ap, sym, subst, arith}
 use Rattle.std.specs.Prelude.{All, nat_lt, ◌↔◌}
 use Rattle.std.proofs.lemmas.Bool.Decides.{nat_tests}
 use Rattle.chart_frames.specs.declared.frame.Frame.{Frame}
@@ -33,27 +34,34 @@ spelled_read : (line : List ℕ) (edit : Edit) → SpellsEdit (Some line) edit �
 spelled_read [] edit spells = absurd spells
 spelled_read (byte ∷ bytes) edit spells = spells
 
-means_edit : (line : List ℕ) (edit : Edit) → length line ≤ 8192 → read_line line ≡ Ok (EditRequest edit) → meaning_of line ≡ EditOf (name_of edit)
+means_edit : (line : List ℕ) (edit : Edit) → length line ≤ 8192 → read_line line ≡ Ok (EditRequest edit)
+    → meaning_of line ≡ EditOf (name_of edit)
 unfolding meaning_of
 means_edit line edit short read =
     let test : nat_lt 8192 (length line) ≡ false = grind (arith, nat_tests) in
     ap (λ (b : Bool). if b then Other else meaning_in (read_line line)) test ∙ ap meaning_in read
 
 -- an edit's frame ends no following
-ends_none : (name : List ℕ) (given : Result Edited Refusal) (frame : Frame) (old new : State) → Edits given frame old new → ended (EditOf name) frame ≡ None
+ends_none : (name : List ℕ) (given : Result Edited Refusal) (frame : Frame) (old new : State) → Edits given frame old new
+    → ended (EditOf name) frame ≡ None
 ends_none name (Ok edited) frame old new replied = ap (ended (EditOf name)) replied.0
 ends_none name (Err refusal) frame old new replied = ap (ended (EditOf name)) replied.reply
 
-module _ (line : List ℕ) (edit : Edit) (frame : Frame) (old new : LiveState) (short : length line ≤ 8192) (read : read_line line ≡ Ok (EditRequest edit)) where
-  ends_followed : Edits (apply old.state.book old.state.total edit) frame old.state new.state → still_followed (ended (meaning_of line) frame) old.followed ≡ old.followed
+module _ (line : List ℕ) (edit : Edit) (frame : Frame) (old new : LiveState) (short : length line ≤ 8192)
+    (read : read_line line ≡ Ok (EditRequest edit)) where
+  ends_followed : Edits (apply old.state.book old.state.total edit) frame old.state new.state
+      → still_followed (ended (meaning_of line) frame) old.followed ≡ old.followed
   ends_followed replied =
       ap (λ (m : Meaning). still_followed (ended m frame) old.followed) (means_edit line edit short read)
-      ∙ ap (λ (e : Option ℕ). still_followed e old.followed) (ends_none (name_of edit) (apply old.state.book old.state.total edit) frame old.state new.state replied)
+      ∙ ap (λ (e : Option ℕ). still_followed e old.followed)
+      (ends_none (name_of edit) (apply old.state.book old.state.total edit) frame old.state new.state replied)
 
-  same_pushed : followers_of (changed_by new.state.book (edit ∷ []) (frame ∷ [])) new.state.sessions old.followed ≡ followers (changed_in new.state.book (meaning_of line) frame) new.state.sessions old.followed
+  same_pushed : followers_of (changed_by new.state.book (edit ∷ []) (frame ∷ [])) new.state.sessions old.followed ≡ followers
+      (changed_in new.state.book (meaning_of line) frame) new.state.sessions old.followed
   same_pushed =
       group-of-one (changed_in new.state.book (EditOf (name_of edit)) frame) new.state.sessions old.followed
-      ∙ sym (ap (λ (m : Meaning). followers (changed_in new.state.book m frame) new.state.sessions old.followed) (means_edit line edit short read))
+      ∙ sym (ap (λ (m : Meaning). followers (changed_in new.state.book m frame) new.state.sessions old.followed)
+      (means_edit line edit short read))
 
   group_line : GroupReplied (edit ∷ []) (frame ∷ []) old new → LiveReplied (Some line) frame old new
   group_line g =
@@ -80,14 +88,16 @@ module _ (line : List ℕ) (edit : Edit) (frame : Frame) (old new : LiveState) (
         pending_now = passes.pending_now ∙ sym same_pushed;
       }
 
-pub one_edit : (line : List ℕ) (edit : Edit) (frame : Frame) (old new : LiveState) → SpellsEdit (Some line) edit → length line ≤ 8192 → GroupReplied (edit ∷ []) (frame ∷ []) old new ↔ LiveReplied (Some line) frame old new
+pub one_edit : (line : List ℕ) (edit : Edit) (frame : Frame) (old new : LiveState) → SpellsEdit (Some line) edit → length line ≤ 8192
+    → GroupReplied (edit ∷ []) (frame ∷ []) old new ↔ LiveReplied (Some line) frame old new
 one_edit line edit frame old new spells short =
     let read = spelled_read line edit spells in
     (group_line line edit frame old new short read, line_group line edit frame old new short read)
 
 -- ---- one answer
 
-edits_one : OneRequest → (edits : List Edit) (frames others : List Frame) (old new behind : State) → RepliesToEdits edits frames old new → RepliesToEdits edits others old behind → (frames ≡ others) × (new ≡ behind)
+edits_one : OneRequest → (edits : List Edit) (frames others : List Frame) (old new behind : State) → RepliesToEdits edits frames old new
+    → RepliesToEdits edits others old behind → (frames ≡ others) × (new ≡ behind)
 edits_one law [] [] [] old new behind a b = (refl, a ∙ sym b)
 edits_one law [] [] (g ∷ gs) old new behind a b = absurd b
 edits_one law [] (f ∷ fs) others old new behind a b = absurd a
@@ -99,7 +109,8 @@ edits_one law (edit ∷ later) (f ∷ fs) (g ∷ gs) old new behind a b =
     let rest = edits_one law later fs gs a.0 new behind a.2 (subst P (sym one.1) b.2) in
     ((λ i. one.0 i ∷ rest.0 i), rest.1)
 
-pub group_one : OneRequest → (edits : List Edit) (frames others : List Frame) (old new behind : LiveState) → GroupReplied edits frames old new → GroupReplied edits others old behind → (frames ≡ others) × (new ≡ behind)
+pub group_one : OneRequest → (edits : List Edit) (frames others : List Frame) (old new behind : LiveState)
+    → GroupReplied edits frames old new → GroupReplied edits others old behind → (frames ≡ others) × (new ≡ behind)
 group_one law edits frames others old new behind a b =
     let both = edits_one law edits frames others old.state new.state behind.state a.replied b.replied in (
       both.0,
@@ -116,7 +127,8 @@ edit_stays : (given : Result Edited Refusal) (frame : Frame) (old new : State) �
 edit_stays (Ok edited) frame old new replied = ap (λ (s : State). s.sessions) replied.1
 edit_stays (Err refusal) frame old new replied = ap (λ (s : State). s.sessions) replied.state
 
-pub edits_stay : (edits : List Edit) (frames : List Frame) (old new : State) → RepliesToEdits edits frames old new → new.sessions ≡ old.sessions
+pub edits_stay : (edits : List Edit) (frames : List Frame) (old new : State) → RepliesToEdits edits frames old new
+    → new.sessions ≡ old.sessions
 edits_stay [] [] old new same = ap (λ (s : State). s.sessions) same
 edits_stay [] (frame ∷ frames) old new none = absurd none
 edits_stay (edit ∷ later) [] old new none = absurd none
@@ -124,12 +136,15 @@ edits_stay (edit ∷ later) (frame ∷ frames) old new replied =
     edits_stay later frames replied.0 new replied.2 ∙ edit_stays (apply old.book old.total edit) frame old replied.0 replied.1.0
 
 -- followed sessions can follow behind a group
-pub group_well : (edits : List Edit) (frames : List Frame) (old new : LiveState) → FollowsWell old → GroupReplied edits frames old new → FollowsWell new
+pub group_well : (edits : List Edit) (frames : List Frame) (old new : LiveState) → FollowsWell old → GroupReplied edits frames old new
+    → FollowsWell new
 group_well edits frames old new well g =
     let S : List Session → Type 0 = λ ss. All (CanFollow ss) old.followed in
     let F : List ℕ → Type 0 = λ l. All (CanFollow new.state.sessions) l in
-    let all : All (CanFollow new.state.sessions) old.followed = subst S (sym (edits_stay edits frames old.state new.state g.replied)) well.followed in
+    let all : All (CanFollow new.state.sessions) old.followed = subst S
+    (sym (edits_stay edits frames old.state new.state g.replied)) well.followed in
     record {
       followed = subst F (sym g.followed_same) all;
-      pending = subst F (sym g.pending_now) (group-all (CanFollow new.state.sessions) (changed_by new.state.book edits frames) new.state.sessions old.followed all);
+      pending = subst F (sym g.pending_now) (group-all (CanFollow new.state.sessions)
+          (changed_by new.state.book edits frames) new.state.sessions old.followed all);
     }

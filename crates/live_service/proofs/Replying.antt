@@ -1,5 +1,6 @@
 -- What a live service's answers are over a plain book.
-use Rattle.std.proofs.Common.{◌≡◌, ℕ, Bool, true, false, if◌then◌else◌, List, [], ◌∷◌, length, ◌<◌, Option, None, Some, Result, Ok, Err, refl, sym, ap, ◌∙◌, subst, inl, inr, arith}
+use Rattle.std.proofs.Common.{◌≡◌, ℕ, Bool, true, false, if◌then◌else◌, List, [], ◌∷◌, length, ◌<◌, Option, None, Some, Result, Ok, Err}
+use Rattle.std.proofs.Common.{refl, sym, ap, ◌∙◌, subst, inl, inr, arith}
 use Rattle.std.specs.Prelude.{nat_lt}
 use Rattle.block_disk.specs.Counts.{HasRisen}
 use Rattle.block_disk.specs.View.{Image, View, Passes}
@@ -36,7 +37,9 @@ use Rattle.zoom_session.specs.declared.view_spec.ViewSpec.{ViewSpec}
 use Rattle.zoom_session.specs.Sessions.{session_of, last_of}
 
 -- the series that an edit changed is the one that the book names
-pub changes_in : (book : List Series) (names : List ℕ → Option ℕ → Type 0) (meaning : Meaning) (frame : Frame) (series : Option ℕ) → ((name : List ℕ) (id : Option ℕ) → names name id → id ≡ id_of name book) → Changes names meaning frame series → series ≡ changed_in book meaning frame
+pub changes_in : (book : List Series) (names : List ℕ → Option ℕ → Type 0) (meaning : Meaning) (frame : Frame) (series : Option ℕ)
+    → ((name : List ℕ) (id : Option ℕ) → names name id → id ≡ id_of name book) → Changes names meaning frame series
+    → series ≡ changed_in book meaning frame
 changes_in book names ViewMeant frame series says is = is
 changes_in book names Other frame series says is = is
 changes_in book names (Edit name) (Done slots) series says is = says name series is
@@ -50,8 +53,10 @@ changes_in book names (Edit name) (Report report) series says is = is
 
 -- ---- a line that asks nothing of live views
 
-other_by : (line : List ℕ) (frame : Frame) (old new : State) (followed waiting now pending : List ℕ) (test : Bool) → nat_lt 8192 (length line) ≡ test → live_line line ≡ OtherLine → Replied (line_text line) frame old new
-    → now ≡ still_followed (ended (meaning_of line) frame) followed → pending ≡ followers (changed_in new.book (meaning_of line) frame) new.sessions followed
+other_by : (line : List ℕ) (frame : Frame) (old new : State) (followed waiting now pending : List ℕ) (test : Bool)
+    → nat_lt 8192 (length line) ≡ test → live_line line ≡ OtherLine → Replied (line_text line) frame old new
+    → now ≡ still_followed (ended (meaning_of line) frame) followed
+    → pending ≡ followers (changed_in new.book (meaning_of line) frame) new.sessions followed
     → LiveReplied (line_text line) frame (live_of old followed waiting) (live_of new now pending)
 unfolding meaning_of
 other_by line frame old new followed waiting now pending true test asked replied now_is pending_is =
@@ -62,7 +67,8 @@ other_by line frame old new followed waiting now pending true test asked replied
     let L : Option (List ℕ) → Type 0 = λ o. LiveReplied o frame (live_of old followed waiting) (live_of new now pending) in
     subst L (sym text) (record {
       replied = long;
-      followed_same = now_is ∙ ap (λ (m : Meaning). still_followed (ended m frame) followed) means ∙ ap (λ (f : Frame). still_followed (ended Other f) followed) is;
+      followed_same = now_is ∙ ap (λ (m : Meaning). still_followed (ended m frame) followed) means
+          ∙ ap (λ (f : Frame). still_followed (ended Other f) followed) is;
       idle = pending_is ∙ ap (λ (m : Meaning). followers (changed_in new.book m frame) new.sessions followed) means;
     })
 other_by line frame old new followed waiting now pending false test asked replied now_is pending_is =
@@ -72,14 +78,17 @@ other_by line frame old new followed waiting now pending false test asked replie
     let A : LiveLine → Type 0 = λ a. RepliesTo a line frame (live_of old followed waiting) (live_of new now pending) in
     subst L (sym text) (subst A (sym asked) (record { replied = short; followed_now = now_is; pending_now = pending_is }))
 
-pub other_replied : (line : List ℕ) (frame : Frame) (old new : State) (followed waiting now pending : List ℕ) → live_line line ≡ OtherLine → Replied (line_text line) frame old new
-    → now ≡ still_followed (ended (meaning_of line) frame) followed → pending ≡ followers (changed_in new.book (meaning_of line) frame) new.sessions followed
+pub other_replied : (line : List ℕ) (frame : Frame) (old new : State) (followed waiting now pending : List ℕ) → live_line line ≡ OtherLine
+    → Replied (line_text line) frame old new
+    → now ≡ still_followed (ended (meaning_of line) frame) followed
+    → pending ≡ followers (changed_in new.book (meaning_of line) frame) new.sessions followed
     → LiveReplied (line_text line) frame (live_of old followed waiting) (live_of new now pending)
 other_replied line frame old new followed waiting now pending asked replied now_is pending_is =
     other_by line frame old new followed waiting now pending (nat_lt 8192 (length line)) refl asked replied now_is pending_is
 
 -- the same of what a crash leaves
-after_other : (line : List ℕ) (total : ℕ) (book : List Series) (ss : List Session) (followed waiting : List ℕ) (image : Image) → live_line line ≡ OtherLine → IsBeforeOrAfterReply (Replied (line_text line)) total book ss image
+after_other : (line : List ℕ) (total : ℕ) (book : List Series) (ss : List Session) (followed waiting : List ℕ) (image : Image)
+    → live_line line ≡ OtherLine → IsBeforeOrAfterReply (Replied (line_text line)) total book ss image
     → IsBeforeOrAfter (LiveReplied (line_text line)) total (live_of (state_of book total ss) followed waiting) image
 after_other line total book ss followed waiting image asked (inl stands) = inl stands
 after_other line total book ss followed waiting image asked (inr after) =
@@ -93,10 +102,12 @@ after_other line total book ss followed waiting image asked (inr after) =
       stands = after.after.stands;
     })
 
-pub other_moments : (line : List ℕ) (total : ℕ) (book : List Series) (ss : List Session) (followed waiting : List ℕ) (old new : View) → live_line line ≡ OtherLine → Passes old new (IsBeforeOrAfterReply (Replied (line_text line)) total book ss) (Quiet old)
+pub other_moments : (line : List ℕ) (total : ℕ) (book : List Series) (ss : List Session) (followed waiting : List ℕ) (old new : View)
+    → live_line line ≡ OtherLine → Passes old new (IsBeforeOrAfterReply (Replied (line_text line)) total book ss) (Quiet old)
     → Passes old new (IsBeforeOrAfter (LiveReplied (line_text line)) total (live_of (state_of book total ss) followed waiting)) (Quiet old)
 other_moments line total book ss followed waiting old new asked passes =
-    passes_weaker old new (IsBeforeOrAfterReply (Replied (line_text line)) total book ss) (IsBeforeOrAfter (LiveReplied (line_text line)) total (live_of (state_of book total ss) followed waiting)) (Quiet old) (Quiet old)
+    passes_weaker old new (IsBeforeOrAfterReply (Replied (line_text line)) total book ss)
+    (IsBeforeOrAfter (LiveReplied (line_text line)) total (live_of (state_of book total ss) followed waiting)) (Quiet old) (Quiet old)
     (λ image one. after_other line total book ss followed waiting image asked one) (λ count quiet. quiet) passes
 
 -- ---- a line that asks for a following
@@ -105,12 +116,14 @@ other_moments line total book ss followed waiting old new asked passes =
 pub short_by : (line : List ℕ) (asked : LiveLine) → live_line line ≡ asked → (OtherLine ≡ asked → ⊥) → line_text line ≡ Some line
 unfolding live_line
 short_by line asked is other =
-    (elim (nat_lt 8192 (length line)) as (λ (b : Bool). (if b then OtherLine else tokens_ask (length line) (tokens line)) ≡ asked → (if b then None else Some line) ≡ Some line) [
+    (elim (nat_lt 8192 (length line)) as (λ (b : Bool). (if b then OtherLine else tokens_ask (length line) (tokens line)) ≡ asked
+    → (if b then None else Some line) ≡ Some line) [
       | true ↦ λ e. absurd (other e)
       | false ↦ λ e. refl
     ]) is
 
-pub own_replied : (line : List ℕ) (asked : LiveLine) (frame : Frame) (old new : LiveState) → live_line line ≡ asked → (OtherLine ≡ asked → ⊥) → RepliesTo asked line frame old new → LiveReplied (line_text line) frame old new
+pub own_replied : (line : List ℕ) (asked : LiveLine) (frame : Frame) (old new : LiveState) → live_line line ≡ asked
+    → (OtherLine ≡ asked → ⊥) → RepliesTo asked line frame old new → LiveReplied (line_text line) frame old new
 own_replied line asked frame old new is other replied =
     let L : Option (List ℕ) → Type 0 = λ o. LiveReplied o frame old new in
     let A : LiveLine → Type 0 = λ a. RepliesTo a line frame old new in
@@ -130,10 +143,12 @@ unread (Some text) state count = unread_read (read_line text) state count
 -- and so may a push
 pub unread_push : (pending : List ℕ) (state : State) (count : ℕ) → ReadsPush pending state count count
 unread_push [] state count = refl
-unread_push (session ∷ later) state count = reads_last state.book count (λ (last : ViewSpec). (last.grid.t0, last.grid.t1)) (last_of (session_of session state.sessions))
+unread_push (session ∷ later) state count = reads_last state.book count (λ (last : ViewSpec). (last.grid.t0, last.grid.t1))
+    (last_of (session_of session state.sessions))
 
 -- a zoom to the window of the last view
-pub own_reads : (book : List Series) (o : Option ViewSpec) (last : ViewSpec) (old new : ℕ) → o ≡ Some last → ReadsLast book o (λ l. (last.grid.t0, last.grid.t1)) old new → ReadsLast book o (λ l. (l.grid.t0, l.grid.t1)) old new
+pub own_reads : (book : List Series) (o : Option ViewSpec) (last : ViewSpec) (old new : ℕ) → o ≡ Some last
+    → ReadsLast book o (λ l. (last.grid.t0, last.grid.t1)) old new → ReadsLast book o (λ l. (l.grid.t0, l.grid.t1)) old new
 own_reads book o last old new is reads =
     let A : Option ViewSpec → Type 0 = λ q. ReadsLast book q (λ l. (last.grid.t0, last.grid.t1)) old new in
     let B : Option ViewSpec → Type 0 = λ q. ReadsLast book q (λ l. (l.grid.t0, l.grid.t1)) old new in
@@ -142,7 +157,9 @@ own_reads book o last old new is reads =
 -- ---- errors
 
 -- a fault of the disk has its cause
-pub disk_cause : (asked : Request) (error : ServiceError) (told : Type 0) (catalog : List StoredSeries) (sessions : List Session) (s : Superblock) (old new : View) → IsStepCause asked error told catalog sessions s old new → error ≡ DiskFault → HasRisen old.faults new.faults
+pub disk_cause : (asked : Request) (error : ServiceError) (told : Type 0) (catalog : List StoredSeries) (sessions : List Session)
+    (s : Superblock) (old new : View) → IsStepCause asked error told catalog sessions s old new → error ≡ DiskFault
+    → HasRisen old.faults new.faults
 disk_cause asked DiskFault told catalog sessions s old new cause is = cause
 disk_cause asked (Damaged page) told catalog sessions s old new cause is = cc
 disk_cause asked NoMemory told catalog sessions s old new cause is = cc

@@ -23,10 +23,14 @@ pub record PushBlames (followed : List ℕ) (last : ℕ → ℕ → Type 0) (tol
   pub within : page < count
   pub found : told → SaysNumbers count image (λ s. (page < s.total) × IsDamagedOf (last session) image s page)
 
-module _ {P : Type 0} {g : Ghosts P} {h : StepperGhosts (ServiceStepper P g) ServiceError} {streams : StreamGhosts (ServiceStepper P g)} where
-  -- where an error calls a page damaged, a push blames it
-  abbrev pub PushBlamed : Live (ServiceStepper P g) ServiceError h streams → Live (ServiceStepper P g) ServiceError h streams → ServiceError → Type 0
-  PushBlamed old new DiskFault = ⊤
-  PushBlamed old new (Damaged page) =
-      PushBlames (follows.followed old) (IsLastIn (shown.sessions (its.service old))) (shown.IsTold (its.service new)) (its.view new).size (its.view new).image page
-  PushBlamed old new NoMemory = ⊤
+module _ {P : Type 0} {g : Ghosts P} {h : StepperGhosts (ServiceStepper P g) ServiceError} {streams : StreamGhosts (ServiceStepper P g)}
+  where
+    -- where an error calls a page damaged, a push blames it
+    abbrev pub PushBlamed : Live (ServiceStepper P g) ServiceError h streams → Live (ServiceStepper P g) ServiceError h streams
+        → ServiceError
+        → Type 0
+    PushBlamed old new DiskFault = ⊤
+    PushBlamed old new (Damaged page) =
+        PushBlames (follows.followed old) (IsLastIn (shown.sessions (its.service old))) (shown.IsTold (its.service new)) (its.view new).size
+        (its.view new).image page
+    PushBlamed old new NoMemory = ⊤

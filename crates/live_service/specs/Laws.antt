@@ -19,7 +19,8 @@ PushesAreDrawn =
 abbrev pub LinesAreDrawn : Type 0
 LinesAreDrawn =
     (line : Option (List ℕ)) (frame : Frame) (old new : LiveState) (holdings : List Holding)
-    → IsSound old.state → LiveReplied line frame old new → Mirrors old.state.sessions holdings → DrawsTheBook frame old.state new.state holdings
+    → IsSound old.state → LiveReplied line frame old new → Mirrors old.state.sessions holdings
+    → DrawsTheBook frame old.state new.state holdings
 
 -- Nothing but want of memory keeps it from that.
 abbrev pub LinesAreAccepted : Type 0
@@ -59,4 +60,5 @@ GroupsAreOne =
 abbrev pub GroupsOfOneAreLines : Type 0
 GroupsOfOneAreLines =
     (line : List ℕ) (edit : Edit) (frame : Frame) (old new : LiveState)
-    → SpellsEdit (Some line) edit → length line ≤ 8192 → GroupReplied (edit ∷ []) (frame ∷ []) old new ↔ LiveReplied (Some line) frame old new
+    → SpellsEdit (Some line) edit → length line ≤ 8192
+    → GroupReplied (edit ∷ []) (frame ∷ []) old new ↔ LiveReplied (Some line) frame old new

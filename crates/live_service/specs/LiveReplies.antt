@@ -102,4 +102,5 @@ pub record Pushed (frame : Frame) (old new : LiveState) : Type 0 where
 -- where no push is pending
 abbrev pub ReadsPush : List ℕ → State → ℕ → ℕ → Type 0
 ReadsPush [] state old new = new ≡ old
-ReadsPush (session ∷ later) state old new = ReadsLast state.book (last_of (session_of session state.sessions)) (λ last. (last.grid.t0, last.grid.t1)) old new
+ReadsPush (session ∷ later) state old new = ReadsLast state.book (last_of (session_of session state.sessions))
+    (λ last. (last.grid.t0, last.grid.t1)) old new

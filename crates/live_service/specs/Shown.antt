@@ -46,37 +46,43 @@ pub record DoesSome (edits : List Edit) (old : LiveState) (image : Image) : Type
   pub total_is : after.state.total ≡ old.state.total
   pub stands : StandsForBook image old.state.total after.state.book
 
-module _ {P : Type 0} {g : Ghosts P} {h : StepperGhosts (ServiceStepper P g) ServiceError} {streams : StreamGhosts (ServiceStepper P g)} where
-  abbrev pub service : Live (ServiceStepper P g) ServiceError h streams → Service P g
-  service it = (live.stepper it).service
+module _ {P : Type 0} {g : Ghosts P} {h : StepperGhosts (ServiceStepper P g) ServiceError} {streams : StreamGhosts (ServiceStepper P g)}
+  where
+    abbrev pub service : Live (ServiceStepper P g) ServiceError h streams → Service P g
+    service it = (live.stepper it).service
 
-  -- its state over a book of its store
-  abbrev pub state : Live (ServiceStepper P g) ServiceError h streams → ℕ → List Series → LiveState
-  state it total book = live_of (shown.state (service it) total book) (live.followed it) (live.pending it)
+    -- its state over a book of its store
+    abbrev pub state : Live (ServiceStepper P g) ServiceError h streams → ℕ → List Series → LiveState
+    state it total book = live_of (shown.state (service it) total book) (live.followed it) (live.pending it)
 
-  -- so of each book that the pages stand for
-  abbrev pub ForBook : Live (ServiceStepper P g) ServiceError h streams → (ℕ → List Series → Type 0) → Type 0
-  ForBook it = shown.ForBook (service it)
+    -- so of each book that the pages stand for
+    abbrev pub ForBook : Live (ServiceStepper P g) ServiceError h streams → (ℕ → List Series → Type 0) → Type 0
+    ForBook it = shown.ForBook (service it)
 
-  -- the pages stand for a book with this total, and the state with it is so
-  abbrev pub StandsSo : ℕ → Live (ServiceStepper P g) ServiceError h streams → (LiveState → Type 0) → Type 0
-  StandsSo total it IsSo = StandsAfter total (shown.image (service it)) (shown.sessions (service it)) (λ state. IsSo (live_of state (live.followed it) (live.pending it)))
+    -- the pages stand for a book with this total, and the state with it is so
+    abbrev pub StandsSo : ℕ → Live (ServiceStepper P g) ServiceError h streams → (LiveState → Type 0) → Type 0
+    StandsSo total it IsSo = StandsAfter total (shown.image (service it)) (shown.sessions (service it))
+        (λ state. IsSo (live_of state (live.followed it) (live.pending it)))
 
-  -- the frame answers so, and the pages stand for the book that it leaves
-  abbrev pub AnswersSo : (Frame → LiveState → LiveState → Type 0) → ℕ → List Series → Live (ServiceStepper P g) ServiceError h streams → Live (ServiceStepper P g) ServiceError h streams → Frame → Type 0
-  AnswersSo Reply total book old new frame = StandsSo total new (λ after. Reply frame (state old total book) after)
+    -- the frame answers so, and the pages stand for the book that it leaves
+    abbrev pub AnswersSo : (Frame → LiveState → LiveState → Type 0) → ℕ → List Series → Live (ServiceStepper P g) ServiceError h streams
+        → Live (ServiceStepper P g) ServiceError h streams → Frame → Type 0
+    AnswersSo Reply total book old new frame = StandsSo total new (λ after. Reply frame (state old total book) after)
 
-  abbrev pub view : Live (ServiceStepper P g) ServiceError h streams → View
-  view it = shown.view (service it)
+    abbrev pub view : Live (ServiceStepper P g) ServiceError h streams → View
+    view it = shown.view (service it)
 
-  -- at each moment a crash leaves the book from before, or one that an answer leaves
-  abbrev pub PassesBy : (Frame → LiveState → LiveState → Type 0) → ℕ → List Series → Live (ServiceStepper P g) ServiceError h streams → Live (ServiceStepper P g) ServiceError h streams → Type 0
-  PassesBy Reply total book old new = Passes (view old) (view new) (IsBeforeOrAfter Reply total (state old total book)) (Quiet (view old))
+    -- at each moment a crash leaves the book from before, or one that an answer leaves
+    abbrev pub PassesBy : (Frame → LiveState → LiveState → Type 0) → ℕ → List Series → Live (ServiceStepper P g) ServiceError h streams
+        → Live (ServiceStepper P g) ServiceError h streams → Type 0
+    PassesBy Reply total book old new = Passes (view old) (view new) (IsBeforeOrAfter Reply total (state old total book)) (Quiet (view old))
 
-  -- a line reads no more blocks than the request that it spells may
-  abbrev pub ReadsFewFor : Option (List ℕ) → ℕ → List Series → Live (ServiceStepper P g) ServiceError h streams → Live (ServiceStepper P g) ServiceError h streams → Type 0
-  ReadsFewFor line total book old new = called.ReadsFewFor line total book (service old) (service new)
+    -- a line reads no more blocks than the request that it spells may
+    abbrev pub ReadsFewFor : Option (List ℕ) → ℕ → List Series → Live (ServiceStepper P g) ServiceError h streams
+        → Live (ServiceStepper P g) ServiceError h streams → Type 0
+    ReadsFewFor line total book old new = called.ReadsFewFor line total book (service old) (service new)
 
-  -- the next push reads no more blocks than it may
-  abbrev pub ReadsNext : ℕ → List Series → Live (ServiceStepper P g) ServiceError h streams → Live (ServiceStepper P g) ServiceError h streams → Type 0
-  ReadsNext total book old new = ReadsPush (live.pending old) (shown.state (service old) total book) (view old).reads (view new).reads
+    -- the next push reads no more blocks than it may
+    abbrev pub ReadsNext : ℕ → List Series → Live (ServiceStepper P g) ServiceError h streams
+        → Live (ServiceStepper P g) ServiceError h streams → Type 0
+    ReadsNext total book old new = ReadsPush (live.pending old) (shown.state (service old) total book) (view old).reads (view new).reads

@@ -48,10 +48,12 @@ module _ {P : Type 0} {g : Ghosts P} where
 
   -- a zoom of a session to the window of its last view is answered, or why it isn't
   pub record RepeatsView (session : ℕ) (result : Result Frame ServiceError) (old new : Service P g) : Type 0 where
-    pub reply : ForLast session old (λ last. shown.ForBook old (λ total book. IfOk result (AnswersSo (RepliedTo (own_zoom session last)) total book old new)))
+    pub reply : ForLast session old (λ last. shown.ForBook old
+        (λ total book. IfOk result (AnswersSo (RepliedTo (own_zoom session last)) total book old new)))
     pub standing : shown.ForBook old (λ total book. IfErr result IsOutside)
     pub moments : shown.PassesTo (Now (shown.view old)) old new
-    pub reads : ForLast session old (λ last. shown.ForBook old (λ total book. ReadsFew (own_zoom session last) book (shown.sessions old) (shown.view old).reads (shown.view new).reads))
+    pub reads : ForLast session old (λ last. shown.ForBook old
+        (λ total book. ReadsFew (own_zoom session last) book (shown.sessions old) (shown.view old).reads (shown.view new).reads))
     pub opens : IfOk result (λ frame. OpensBy frame (shown.sessions old) (shown.sessions new))
     pub sessions : OnErr result (LosesAtMost (Some session) (shown.sessions old) (shown.sessions new))
     pub may : IfOk result (λ frame. MayShow session frame)

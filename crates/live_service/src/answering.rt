@@ -42,7 +42,8 @@ pub fn step_line<P: PageWorld>(
 ) -> Result<Frame, ServiceError>
     requires idle { follows.IsIdle live.old }
     requires sound { (its.view live.old).fit }
-    ensures reply { its.ForBook live.old (λ total book. IfOk result (its.AnswersSo (LiveReplied (line_text line.now)) total book live.old live.new)) }
+    ensures reply { its.ForBook live.old (λ total book. IfOk result
+        (its.AnswersSo (LiveReplied (line_text line.now)) total book live.old live.new)) }
     ensures standing { its.ForBook live.old (λ total book. IfErr result IsOutside) }
     // a crash at any moment leaves the book from before, or the one that the reply leaves
     ensures moments { its.ForBook live.old (λ total book. its.PassesBy (LiveReplied (line_text line.now)) total book live.old live.new) }
@@ -52,20 +53,24 @@ pub fn step_line<P: PageWorld>(
     // a frame is of the kind, and in the session, that its line asks for
     ensures may { IfOk result (λ frame. MayAnswerLive (line_text line.now) frame) }
     // the sessions are followed that the lines and their frames say
-    ensures followed { IfOk result (λ frame. follows.followed live.new ≡ followed_after (line_text line.now) frame (follows.followed live.old)) }
+    ensures followed { IfOk result (λ frame. follows.followed live.new ≡ followed_after (line_text line.now) frame
+        (follows.followed live.old)) }
     // the last view of each session is of a series that the line and its frame show
-    ensures lasts { IfOk result (λ frame. LastsBy (OfRowsLine (line_text line.now)) frame (shown.sessions (its.service live.old)) (shown.sessions (its.service live.new))) }
+    ensures lasts { IfOk result (λ frame. LastsBy (OfRowsLine (line_text line.now)) frame (shown.sessions (its.service live.old))
+        (shown.sessions (its.service live.new))) }
     ensures opens { IfOk result (λ frame. OpensBy frame (shown.sessions (its.service live.old)) (shown.sessions (its.service live.new))) }
     ensures ended { IfErr result (λ error. follows.IsIdle live.new) }
     ensures unchanged { CommitsOnly result (its.service live.old) (its.service live.new) }
     // a line that spells no edit commits nothing
-    ensures idle { edit_of (line_text line.now) ≡ [] → IsUnchanged (shown.IsTold (its.service live.old)) (its.view live.old) (its.view live.new) }
+    ensures idle { edit_of (line_text line.now) ≡ []
+        → IsUnchanged (shown.IsTold (its.service live.old)) (its.view live.old) (its.view live.new) }
     ensures disk { result ≡ Err ServiceError.DiskFault → HasRisen (its.view live.old).faults (its.view live.new).faults }
     ensures faults { CountsFault (fault_in step_fault result) (its.view live.old) (its.view live.new) }
     ensures bad { IfErr result (NamesBad (shown.IsTold (its.service live.new)) (its.view live.new).size (its.view live.new).image) }
     // a page that is called damaged is so for the line, by the series that the sessions show last
     ensures blames { IfErr result (LineBlamed (line_text line.now) (its.service live.old) (its.service live.new)) }
-    ensures steps { Steps (shown.IsTold (its.service live.old)) (shown.IsTold (its.service live.new)) (its.view live.old) (its.view live.new) }
+    ensures steps { Steps (shown.IsTold (its.service live.old)) (shown.IsTold (its.service live.new)) (its.view live.old)
+        (its.view live.new) }
     ensures goes_on { GoesOn (shown.under (its.service live.old)) (shown.under (its.service live.new)) }
     ensures sound { OnOk result (its.view live.new).fit }
     ensures total { shown.total (its.service live.new) ≡ shown.total (its.service live.old) }
@@ -88,15 +93,19 @@ pub fn step_edits<P: PageWorld>(
     requires some { 0 < length edits.now }
     requires few { length edits.now ≤ most_ahead }
     requires are_edits { All IsEdit edits.now }
-    ensures reply { its.ForBook live.old (λ total book. IfOk result (λ frames. its.StandsSo total live.new (GroupReplied edits.now frames.items (its.state live.old total book)))) }
+    ensures reply { its.ForBook live.old (λ total book. IfOk result
+        (λ frames. its.StandsSo total live.new (GroupReplied edits.now frames.items (its.state live.old total book)))) }
     ensures standing { its.ForBook live.old (λ total book. IfErr result IsOutside) }
     // the book after some first of these edits stays after an error
-    ensures left { its.ForBook live.old (λ total book. result ≢ Err ServiceError.DiskFault → its.DoesSome edits.now (its.state live.old total book) (its.view live.new).image) }
+    ensures left { its.ForBook live.old (λ total book. result ≢ Err ServiceError.DiskFault
+        → its.DoesSome edits.now (its.state live.old total book) (its.view live.new).image) }
     // and a crash at any moment leaves it
-    ensures moments { its.ForBook live.old (λ total book. shown.PassesTo (its.DoesSome edits.now (its.state live.old total book)) (its.service live.old) (its.service live.new)) }
+    ensures moments { its.ForBook live.old (λ total book. shown.PassesTo (its.DoesSome edits.now (its.state live.old total book))
+        (its.service live.old) (its.service live.new)) }
     ensures reads { its.ForBook live.old (λ total book. (its.view live.new).reads ≤ (its.view live.old).reads + 96 * length edits.now) }
     // they are committed together, and what their pages fill by themselves
-    ensures syncs { its.ForBook live.old (λ total book. (its.view live.new).syncs ≤ (its.view live.old).syncs + group_syncs total book edits.now) }
+    ensures syncs { its.ForBook live.old (λ total book.
+        (its.view live.new).syncs ≤ (its.view live.old).syncs + group_syncs total book edits.now) }
     // whatever the pages are
     ensures each { IfOk result (λ frames. length frames.items ≡ length edits.now) }
     ensures fits { IfOk result (λ frames. All Fits frames.items) }
@@ -108,7 +117,8 @@ pub fn step_edits<P: PageWorld>(
     ensures faults { CountsFault (fault_in step_fault result) (its.view live.old) (its.view live.new) }
     ensures bad { IfErr result (NamesBad (shown.IsTold (its.service live.new)) (its.view live.new).size (its.view live.new).image) }
     // a page that is called damaged is so for an edit
-    ensures blames { IfErr result (NamesBadForEdit (shown.IsTold (its.service live.new)) (its.view live.new).size (its.view live.new).image) }
+    ensures blames { IfErr result (NamesBadForEdit (shown.IsTold (its.service live.new)) (its.view live.new).size
+        (its.view live.new).image) }
     ensures moves { shown.MovesSo (its.service live.old) (its.service live.new) }
     ensures goes_on { GoesOn (shown.under (its.service live.old)) (shown.under (its.service live.new)) }
     ensures sound { result ≢ Err ServiceError.DiskFault → (its.view live.new).fit }
@@ -128,7 +138,8 @@ pub fn push<P: PageWorld>(live: &mut Live<ServiceStepper<P>>) -> Result<Option<F
     ensures none { (result ≡ Ok None) ↔ follows.IsIdle live.old }
     ensures same { IfOk result (λ some. IfNone some (follows.Stays live.old live.new)) }
     ensures fewer { IfOk result (λ some. IfSome some (λ _. length (follows.pending live.new) < length (follows.pending live.old))) }
-    ensures reply { its.ForBook live.old (λ total book. IfOk result (λ some. IfSome some (its.AnswersSo Pushed total book live.old live.new))) }
+    ensures reply { its.ForBook live.old (λ total book. IfOk result
+        (λ some. IfSome some (its.AnswersSo Pushed total book live.old live.new))) }
     ensures standing { its.ForBook live.old (λ total book. IfErr result IsOutside) }
     ensures reads { its.ForBook live.old (λ total book. its.ReadsNext total book live.old live.new) }
     // whatever the pages are
@@ -137,8 +148,10 @@ pub fn push<P: PageWorld>(live: &mut Live<ServiceStepper<P>>) -> Result<Option<F
     // a push is no refusal: it shows a view of a followed session
     ensures shows { IfOk result (λ some. IfSome some (ShowsOneOf (follows.followed live.old))) }
     ensures followed { OnOk result (follows.followed live.new ≡ follows.followed live.old) }
-    ensures opens { IfOk result (λ some. IfSome some (λ frame. OpensBy frame (shown.sessions (its.service live.old)) (shown.sessions (its.service live.new)))) }
-    ensures lasts { IfOk result (λ some. IfSome some (λ frame. LastsBy (λ was. was) frame (shown.sessions (its.service live.old)) (shown.sessions (its.service live.new)))) }
+    ensures opens { IfOk result (λ some. IfSome some
+        (λ frame. OpensBy frame (shown.sessions (its.service live.old)) (shown.sessions (its.service live.new)))) }
+    ensures lasts { IfOk result (λ some. IfSome some
+        (λ frame. LastsBy (λ was. was) frame (shown.sessions (its.service live.old)) (shown.sessions (its.service live.new)))) }
     ensures moments { shown.PassesTo (Now (its.view live.old)) (its.service live.old) (its.service live.new) }
     ensures unchanged { IsUnchanged (shown.IsTold (its.service live.old)) (its.view live.old) (its.view live.new) }
     ensures disk { result ≡ Err ServiceError.DiskFault → HasRisen (its.view live.old).faults (its.view live.new).faults }
@@ -146,7 +159,8 @@ pub fn push<P: PageWorld>(live: &mut Live<ServiceStepper<P>>) -> Result<Option<F
     ensures bad { IfErr result (NamesBad (shown.IsTold (its.service live.new)) (its.view live.new).size (its.view live.new).image) }
     // a page that is called damaged is one of the tree of the series that a followed session shows last
     ensures blames { IfErr result (PushBlamed live.old live.new) }
-    ensures steps { Steps (shown.IsTold (its.service live.old)) (shown.IsTold (its.service live.new)) (its.view live.old) (its.view live.new) }
+    ensures steps { Steps (shown.IsTold (its.service live.old)) (shown.IsTold (its.service live.new)) (its.view live.old)
+        (its.view live.new) }
     ensures goes_on { GoesOn (shown.under (its.service live.old)) (shown.under (its.service live.new)) }
     ensures sound { OnOk result (its.view live.new).fit }
     ensures total { shown.total (its.service live.new) ≡ shown.total (its.service live.old) }

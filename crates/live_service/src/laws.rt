@@ -8,7 +8,8 @@ ghost use Rattle.chart_service.specs.Replies.{line_text};
 ghost use Rattle.live_service.specs.Following.{FollowsWell, ShowsView};
 ghost use Rattle.live_service.specs.Kinds.{MayAnswerLive, MayPush};
 ghost use Rattle.live_service.specs.LiveReplies.{GroupReplied, LiveState, LiveReplied, Pushed};
-ghost use Rattle.live_service.specs.Laws.{PushesAreDrawn, LinesAreDrawn, LinesAreAccepted, OwnLinesAreDrawn, OwnPushesAreDrawn, LiveRepliesAreOne, PushesAreOne, GroupsAreOne, GroupsOfOneAreLines};
+ghost use Rattle.live_service.specs.Laws.{PushesAreDrawn, LinesAreDrawn, LinesAreAccepted, OwnLinesAreDrawn, OwnPushesAreDrawn};
+ghost use Rattle.live_service.specs.Laws.{LiveRepliesAreOne, PushesAreOne, GroupsAreOne, GroupsOfOneAreLines};
 ghost use Rattle.series_book.specs.declared.edits.Edit.{Edit};
 
 use chart_service::laws::{replies_are_one, replies_may_answer};
@@ -34,7 +35,8 @@ pub fn clients_draw_pushes()
 pub fn clients_draw_lines()
     ensures draws { LinesAreDrawn }
     ensures accepts { LinesAreAccepted }
-    ensures sound { (line : Option (List ℕ)) (frame : Frame) (old new : LiveState) → IsSound old.state → LiveReplied line frame old new → IsSound new.state }
+    ensures sound { (line : Option (List ℕ)) (frame : Frame) (old new : LiveState) → IsSound old.state → LiveReplied line frame old new
+        → IsSound new.state }
 {
     clients_draw_the_book();
 }
@@ -67,8 +69,8 @@ pub fn pushes_show_views()
     followed_views_fit();
 }
 
-/// Each line has one answer of a live service, and so have edits that are done together, and each push is one: the frame, and what the service holds behind it, are
-/// determined by what it holds before.
+/// Each line has one answer of a live service, and so have edits that are done together, and each push is one: the frame, and what
+/// the service holds behind it, are determined by what it holds before.
 pub fn live_replies_are_one()
     ensures lines { LiveRepliesAreOne }
     ensures groups { GroupsAreOne }
@@ -86,7 +88,8 @@ pub fn groups_of_one_are_lines()
 /// The reply to a line by a book is one that may answer the line whatever the book is, and a push of a session that can follow
 /// is one that may be pushed.
 pub fn live_replies_may_answer()
-    ensures lines { (line : Option (List ℕ)) (frame : Frame) (old new : LiveState) → LiveReplied line frame old new → MayAnswerLive line frame }
+    ensures lines { (line : Option (List ℕ)) (frame : Frame) (old new : LiveState) → LiveReplied line frame old new
+        → MayAnswerLive line frame }
     ensures pushes { (frame : Frame) (old new : LiveState) → FollowsWell old → Pushed frame old new → MayPush frame }
 {
     replies_may_answer();

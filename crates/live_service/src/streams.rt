@@ -19,7 +19,8 @@ impl<P: PageWorld> Streams for ServiceStepper<P> {
     /// What the service has beside its pages stays.
     ghost takes = { λ old new. shown.Keeps (P.takes (shown.pages old.service) (shown.pages new.service)) old.service new.service };
 
-    ghost sends = { λ count old new. shown.Keeps (P.sends count (shown.pages old.service) (shown.pages new.service)) old.service new.service };
+    ghost sends = { λ count old new. shown.Keeps (P.sends count (shown.pages old.service) (shown.pages new.service)) old.service
+        new.service };
 
     fn take(&mut self, buf: &mut [u8]) -> Result<usize, Failed> {
         self.service.take(buf)
@@ -31,11 +32,14 @@ impl<P: PageWorld> Streams for ServiceStepper<P> {
 
     ghost takes_none = { λ at. shown.keeps_none at.service (P.takes_none (shown.pages at.service)) };
 
-    ghost takes_then = { λ old between new. shown.keeps_then old.service between.service new.service (P.takes_then (shown.pages old.service) (shown.pages between.service) (shown.pages new.service)) };
+    ghost takes_then = { λ old between new. shown.keeps_then old.service between.service new.service
+        (P.takes_then (shown.pages old.service) (shown.pages between.service) (shown.pages new.service)) };
 
     ghost sends_none = { λ at. shown.keeps_none at.service (P.sends_none (shown.pages at.service)) };
 
-    ghost sends_more = { λ count more old new within. shown.keeps_so old.service new.service (P.sends_more count more (shown.pages old.service) (shown.pages new.service) within) };
+    ghost sends_more = { λ count more old new within. shown.keeps_so old.service new.service
+        (P.sends_more count more (shown.pages old.service) (shown.pages new.service) within) };
 
-    ghost sends_then = { λ first second old between new. shown.keeps_then old.service between.service new.service (P.sends_then first second (shown.pages old.service) (shown.pages between.service) (shown.pages new.service)) };
+    ghost sends_then = { λ first second old between new. shown.keeps_then old.service between.service new.service
+        (P.sends_then first second (shown.pages old.service) (shown.pages between.service) (shown.pages new.service)) };
 }

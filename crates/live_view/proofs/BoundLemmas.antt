@@ -18,13 +18,15 @@ not-followed n bound cache unfiltered large one two live =
     cc
 
 -- the bound of a followed view without a filter is within the cache
-pub bound-fits : (n cache : ℕ) (last : Option ViewSpec) (view : ViewSpec) → follow_view n cache last ≡ Live n true → last ≡ Some view → view.filter ≡ None
+pub bound-fits : (n cache : ℕ) (last : Option ViewSpec) (view : ViewSpec) → follow_view n cache last ≡ Live n true → last ≡ Some view
+    → view.filter ≡ None
     → live_bound view.grid.w ≤ cache
 bound-fits n cache last view live is unfiltered =
     let P : Option ViewSpec → Type 0 = λ l. follow_view n cache l ≡ Live n true in
     elim (cases_lt cache (live_bound view.grid.w)) [
       | inl large ↦ let test : nat_lt cache (live_bound view.grid.w) ≡ true = grind (arith, nat_tests) in
-          absurd (not-followed n (live_bound view.grid.w) cache (is_none view.filter) (nat_lt cache (live_bound view.grid.w)) (ap is_none unfiltered) test (subst P is live))
+          absurd (not-followed n (live_bound view.grid.w) cache (is_none view.filter) (nat_lt cache (live_bound view.grid.w))
+          (ap is_none unfiltered) test (subst P is live))
       | inr fits ↦ fits
     ]
 

@@ -1,5 +1,6 @@
 -- What the lines that follow a session ask.
-use Rattle.std.proofs.Common.{◌≡◌, ℕ, ◌+◌, ◌<◌, ◌≤◌, true, false, ltb, List, ◌∷◌, length, drop, Ok, Err, refl, sym, ap, ◌∙◌, zero-add, arith}
+use Rattle.std.proofs.Common.{◌≡◌, ℕ, ◌+◌, ◌<◌, ◌≤◌, true, false, ltb, List, ◌∷◌, length, drop, Ok, Err, refl, sym, ap, ◌∙◌, zero-add}
+use Rattle.std.proofs.Common.{arith}
 use Rattle.std.specs.List.{before_first}
 use Rattle.std.proofs.lemmas.Bool.Decides.{nat_tests}
 use Rattle.whole_number.specs.Numbers.{natural_value}
@@ -22,25 +23,34 @@ split_off line at token there is =
     ∙ ap (λ (t : List ℕ). t ∷ tokens_left (cursor line (at + length t + 1))) (sym is)
 
 -- no token is left
-pub alone-missing : (line : List ℕ) (at : ℕ) → length line < at → Err (length line) ≡ session_alone (length line) (tokens_left (cursor line at)) at
+pub alone-missing : (line : List ℕ) (at : ℕ) → length line < at
+    → Err (length line) ≡ session_alone (length line) (tokens_left (cursor line at)) at
 unfolding session_alone fault
 alone-missing line at past = rw (tokens_left-none (cursor line at) past) refl
 
 -- the next one isn't a session's number
-pub alone-bad : (line : List ℕ) (at : ℕ) (token : List ℕ) → at ≤ length line → token ≡ before_first is_space (drop at line) → allows Session token ≡ false
+pub alone-bad : (line : List ℕ) (at : ℕ) (token : List ℕ) → at ≤ length line → token ≡ before_first is_space (drop at line)
+    → allows Session token ≡ false
     → Err at ≡ session_alone (length line) (tokens_left (cursor line at)) at
 unfolding session_alone fault
 alone-bad line at token there is bad = rw (split_off line at token there is, bad) refl
 
 -- a second one stands behind it
-pub alone-more : (line : List ℕ) (at : ℕ) (token : List ℕ) → at ≤ length line → token ≡ before_first is_space (drop at line) → allows Session token ≡ true
+pub alone-more : (line : List ℕ) (at : ℕ) (token : List ℕ) → at ≤ length line → token ≡ before_first is_space (drop at line)
+    → allows Session token ≡ true
     → at + length token + 1 ≤ length line → Err (at + length token + 1) ≡ session_alone (length line) (tokens_left (cursor line at)) at
 unfolding session_alone fault ending_fault
 alone-more line at token there is good more =
-    rw (split_off line at token there is, good, split_off line (at + length token + 1) (before_first is_space (drop (at + length token + 1) line)) more refl) refl
+    rw (
+      split_off line at token there is,
+      good,
+      split_off line (at + length token + 1)
+          (before_first is_space (drop (at + length token + 1) line)) more refl,
+    ) refl
 
 -- it is the only one
-pub alone-ok : (line : List ℕ) (at : ℕ) (token : List ℕ) → at ≤ length line → token ≡ before_first is_space (drop at line) → allows Session token ≡ true
+pub alone-ok : (line : List ℕ) (at : ℕ) (token : List ℕ) → at ≤ length line → token ≡ before_first is_space (drop at line)
+    → allows Session token ≡ true
     → length line < at + length token + 1 → Ok (natural_value token) ≡ session_alone (length line) (tokens_left (cursor line at)) at
 unfolding session_alone fault ending_fault
 alone-ok line at token there is good last =
@@ -58,5 +68,6 @@ unfolding live_line
 line-asks line word short is =
     let test : ltb 8192 (length line) ≡ false = grind (arith, nat_tests) in
     let there : 0 ≤ length line = omega arith in
-    let first : tokens_left (cursor line 0) ≡ word ∷ tokens_left (cursor line (length word + 1)) = simp zero-add at (split_off line 0 word there is) in
+    let first : tokens_left (cursor line 0) ≡ word ∷ tokens_left (cursor line (length word + 1)) = simp zero-add at
+    (split_off line 0 word there is) in
     rw test (ap (tokens_ask (length line)) (sym (tokens_left-within line 0 there) ∙ first))

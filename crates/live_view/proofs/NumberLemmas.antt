@@ -12,12 +12,14 @@ abbrev IsBelow : ℕ → ℕ → Type 0
 IsBelow a b = a < b
 
 -- each pair of the one list, of the other, and of both
-AllPairs-append : {X : Type 0} (R : X → X → Type 0) (xs ys : List X) → AllPairs R xs → AllPairs R ys → All (λ x. All (R x) ys) xs → AllPairs R (xs ++ ys)
+AllPairs-append : {X : Type 0} (R : X → X → Type 0) (xs ys : List X) → AllPairs R xs → AllPairs R ys → All (λ x. All (R x) ys) xs
+    → AllPairs R (xs ++ ys)
 AllPairs-append R [] ys left right across = right
 AllPairs-append R (x ∷ xs) ys left right across =
     AllPairs-cons R x (xs ++ ys)
     (All-append (R x) xs ys (λ k d below. left 0 (suc k) d (omega arith) (omega (arith, below))) (across 0 x (omega arith)))
-    (AllPairs-append R xs ys (λ i j d before below. left (suc i) (suc j) d (omega (arith, before)) (omega (arith, below))) right (λ k d below. across (suc k) d (omega (arith, below))))
+    (AllPairs-append R xs ys (λ i j d before below. left (suc i) (suc j) d (omega (arith, before)) (omega (arith, below))) right
+    (λ k d below. across (suc k) d (omega (arith, below))))
 
 -- numbers each of which is below all later ones rise
 rise : (xs : List ℕ) → AllPairs IsBelow xs → IsStrictlyIncreasing xs
@@ -35,11 +37,15 @@ with-rises n xs rising =
     let pairs : AllPairs IsBelow xs = AllPairs-from_increasing xs rising in
     let low : List ℕ = filter (λ m. nat_lt m n) xs in
     let high : List ℕ = filter (λ m. nat_lt n m) xs in
-    let lows : All (λ m. m < n) low = All-weaker (λ m. nat_lt m n ≡ true) (λ m. m < n) (below_so n) low (filter_passes (λ m. nat_lt m n) xs) in
-    let highs : All (λ m. n < m) high = All-weaker (λ m. nat_lt n m ≡ true) (λ m. n < m) (above_so n) high (filter_passes (λ m. nat_lt n m) xs) in
+    let lows : All (λ m. m < n) low = All-weaker (λ m. nat_lt m n ≡ true) (λ m. m < n) (below_so n) low
+    (filter_passes (λ m. nat_lt m n) xs) in
+    let highs : All (λ m. n < m) high = All-weaker (λ m. nat_lt n m ≡ true) (λ m. n < m) (above_so n) high
+    (filter_passes (λ m. nat_lt n m) xs) in
     rise (with_number n xs) (AllPairs-append IsBelow low (n ∷ high) (AllPairs-filter IsBelow (λ m. nat_lt m n) xs pairs)
     (AllPairs-cons IsBelow n high highs (AllPairs-filter IsBelow (λ m. nat_lt n m) xs pairs))
-    (All-weaker (λ m. m < n) (λ m. All (IsBelow m) (n ∷ high)) (λ m low_so. All-cons (IsBelow m) n high low_so (All-weaker (λ k. n < k) (IsBelow m) (λ k high_so. omega (arith, low_so, high_so)) high highs)) low lows))
+    (All-weaker (λ m. m < n) (λ m. All (IsBelow m) (n ∷ high))
+    (λ m low_so. All-cons (IsBelow m) n high low_so
+    (All-weaker (λ k. n < k) (IsBelow m) (λ k high_so. omega (arith, low_so, high_so)) high highs)) low lows))
 
 -- what holds of all numbers and of one more holds of all with it
 pub with-all : (P : ℕ → Type 0) (n : ℕ) (xs : List ℕ) → P n → All P xs → All P (with_number n xs)

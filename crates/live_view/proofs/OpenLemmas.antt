@@ -1,5 +1,6 @@
 -- Which of some numbers are open sessions', and how many.
-use Rattle.std.proofs.Common.{◌≡◌, ◌≢◌, ℕ, suc, ◌<◌, ◌≤◌, Bool, true, false, ◌||◌, List, [], ◌∷◌, length, get_or, map, refl, sym, ap, ◌∙◌, subst, arith}
+use Rattle.std.proofs.Common.{◌≡◌, ◌≢◌, ℕ, suc, ◌<◌, ◌≤◌, Bool, true, false, ◌||◌, List, [], ◌∷◌, length, get_or, map, refl, sym, ap, ◌∙◌}
+use Rattle.std.proofs.Common.{subst, arith}
 use Rattle.std.specs.Prelude.{IsTrue, nat_eq, ◌==◌, is_some, Option, None, Some, if◌then◌else◌}
 use Rattle.std.specs.Cmp.{nat_eq_equiv}
 use Rattle.std.specs.Set.{is_member}
@@ -27,11 +28,14 @@ open-member q (s ∷ ss) =
     ap (λ b. b || is_open q ss) (nat_eq_equiv.symm s.number q) ∙ ap (λ b. nat_eq q s.number || b) (open-member q ss)
 
 -- numbers that rise, all of open sessions, are no more than the sessions
-pub open-few : (sessions : List Session) (ns : List ℕ) → AreSessions sessions → AreOpen sessions ns → IsStrictlyIncreasing ns → length ns ≤ 16
+pub open-few : (sessions : List Session) (ns : List ℕ) → AreSessions sessions → AreOpen sessions ns → IsStrictlyIncreasing ns
+    → length ns ≤ 16
 open-few sessions ns valid opened rising =
-    let distinct = IsDistinct-from_AllPairs Decides-eqb ns (λ i j d before below. λ same. absurd (omega (arith, AllPairs-from_increasing ns rising i j d before below, same))) in
+    let distinct = IsDistinct-from_AllPairs Decides-eqb ns
+    (λ i j d before below. λ same. absurd (omega (arith, AllPairs-from_increasing ns rising i j d before below, same))) in
     let inside : (q : ℕ) → is_member nat_eq ns q ≡ true → is_member nat_eq (numbers sessions) q ≡ true =
-    λ q member. sym (open-member q sessions) ∙ All-contains (λ n. is_open n sessions ≡ true) ns q (λ k d below. opened k d below) ((is_member-Decides Decides-eqb ns q).0 member) in
+    λ q member. sym (open-member q sessions) ∙ All-contains (λ n. is_open n sessions ≡ true) ns q (λ k d below. opened k d below)
+    ((is_member-Decides Decides-eqb ns q).0 member) in
     let few : length ns ≤ length (numbers sessions) = length-le_from_is_member nat_eq_equiv ns (numbers sessions) distinct inside in
     omega (arith, few, length-map sessions (λ (s : Session). s.number), valid.few)
 
@@ -59,7 +63,8 @@ live-there n m on None live = cc
 live-there n m on (Some s) live = refl
 
 -- so a session that is followed is open
-pub live-open : (n m : ℕ) (on : Bool) (reply : Frame) (sessions : List Session) → reply ≡ follow_reply n (session_of n sessions) → reply ≡ Live m on → IsTrue (is_open n sessions)
+pub live-open : (n m : ℕ) (on : Bool) (reply : Frame) (sessions : List Session) → reply ≡ follow_reply n (session_of n sessions)
+    → reply ≡ Live m on → IsTrue (is_open n sessions)
 live-open n m on reply sessions is live = sym (opens-found n sessions) ∙ live-there n m on (session_of n sessions) (sym is ∙ live)
 
 -- sessions of which the same are open

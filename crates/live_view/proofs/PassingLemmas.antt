@@ -1,5 +1,6 @@
 -- What answers of the stepper leave of the followed sessions, and to whom they push.
-use Rattle.std.proofs.Common.{◌≡◌, ℕ, ◌≤◌, Bool, true, false, not, ◌||◌, ◌&&◌, List, [], length, get_or, refl, ap, ◌∙◌, arith, Option, None, Some}
+use Rattle.std.proofs.Common.{◌≡◌, ℕ, ◌≤◌, Bool, true, false, not, ◌||◌, ◌&&◌, List, [], length, get_or, refl, ap, ◌∙◌, arith, Option, None}
+use Rattle.std.proofs.Common.{Some}
 use Rattle.std.specs.Prelude.{All, IsTrue, ◌==◌, is_some}
 use Rattle.std.specs.Cmp.{nat_eq_equiv}
 use Rattle.std.specs.List.Sorted.{IsStrictlyIncreasing}
@@ -68,9 +69,11 @@ passed-open meaning (Live session on) old new ns opens opened = λ k d below. op
 passed-open meaning (Report report) old new ns opens opened = λ k d below. opens (get_or ns k d) ∙ opened k d below
 
 -- the sessions that follow a series rise, and have had a view
-pub followers-rise : (series : Option ℕ) (sessions : List Session) (ns : List ℕ) → IsStrictlyIncreasing ns → IsStrictlyIncreasing (followers series sessions ns)
+pub followers-rise : (series : Option ℕ) (sessions : List Session) (ns : List ℕ) → IsStrictlyIncreasing ns
+    → IsStrictlyIncreasing (followers series sessions ns)
 followers-rise None sessions ns rising = none-rises
-followers-rise (Some series) sessions ns rising = IsStrictlyIncreasing-filter (λ n. shows series (last_of (session_of n sessions))) ns rising
+followers-rise (Some series) sessions ns rising = IsStrictlyIncreasing-filter
+    (λ n. shows series (last_of (session_of n sessions))) ns rising
 
 shown-viewed : (series : ℕ) (last : Option ViewSpec) → shows series last ≡ true → is_some last ≡ true
 shown-viewed series None shown = cc
@@ -83,6 +86,7 @@ followers-viewed (Some series) sessions ns =
     (λ n shown. shown-viewed series (last_of (session_of n sessions)) shown)
     (followers (Some series) sessions ns) (filter_passes (λ n. shows series (last_of (session_of n sessions))) ns)
 
-pub followers-all : (P : ℕ → Type 0) (series : Option ℕ) (sessions : List Session) (ns : List ℕ) → All P ns → All P (followers series sessions ns)
+pub followers-all : (P : ℕ → Type 0) (series : Option ℕ) (sessions : List Session) (ns : List ℕ) → All P ns
+    → All P (followers series sessions ns)
 followers-all P None sessions ns all = λ k d below. absurd (omega (arith, below))
 followers-all P (Some series) sessions ns all = All-filter (λ n. shows series (last_of (session_of n sessions))) P ns all

@@ -52,7 +52,8 @@ contains-with n m xs =
               Contains-append_left low (n ∷ high) m ((contains-filter (λ other. nat_lt other n) xs m).1 (there, test))
           | inr most ↦ elim (cases_lt n m) [
             | inl more ↦ let test : nat_lt n m ≡ true = grind (arith, nat_tests) in
-                Contains-append_right low (n ∷ high) m (Contains-append_right (n ∷ []) high m ((contains-filter (λ other. nat_lt n other) xs m).1 (there, test)))
+                Contains-append_right low (n ∷ high) m
+                (Contains-append_right (n ∷ []) high m ((contains-filter (λ other. nat_lt n other) xs m).1 (there, test)))
             | inr least ↦ let same : m ≡ n = omega (arith, most, least) in Contains-append_right low (n ∷ high) m (0, omega arith, sym same)
           ]
         ]

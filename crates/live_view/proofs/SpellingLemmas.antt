@@ -1,5 +1,6 @@
 -- Which lines follow a session, and which end it.
-use Rattle.std.proofs.Common.{◌≡◌, ℕ, ◌+◌, ◌≤◌, Bool, true, false, ltb, ◌&&◌, List, [], ◌∷◌, length, None, Some, Result, Ok, Err, refl, sym, ap, ◌∙◌, subst, inl, inr, arith}
+use Rattle.std.proofs.Common.{◌≡◌, ℕ, ◌+◌, ◌≤◌, Bool, true, false, ltb, ◌&&◌, List, [], ◌∷◌, length, None, Some, Result, Ok, Err, refl, sym}
+use Rattle.std.proofs.Common.{ap, ◌∙◌, subst, inl, inr, arith}
 use Rattle.std.specs.Prelude.{codes, nat_le, if◌then◌else◌, ◌↔◌}
 use Rattle.std.specs.Str.{bytes_eq}
 use Rattle.std.specs.Fmt.{decimal}
@@ -41,7 +42,8 @@ written-session n session =
     let to : nat_le n 4294967295 ≡ true = grind (arith, nat_tests, session.high) in
     let back : n ≡ natural_value (decimal n) = sym (natural_back n (written n session)) in
     and_from (is_natural (decimal n) && nat_le 1 (natural_value (decimal n))) (nat_le (natural_value (decimal n)) 4294967295)
-    (and_from (is_natural (decimal n)) (nat_le 1 (natural_value (decimal n))) (spelt_natural (decimal n) n (written n session)) (subst P back from))
+    (and_from (is_natural (decimal n)) (nat_le 1 (natural_value (decimal n))) (spelt_natural (decimal n) n (written n session))
+    (subst P back from))
     (subst Q back to)
 
 abbrev IsAlone : ℕ → List (List ℕ) → Type 0
@@ -57,12 +59,14 @@ alone-spelt : (end at n : ℕ) (others : List (List ℕ)) → session_alone end 
 unfolding session_alone fault ending_fault
 alone-spelt end at n [] h = absurd (cc)
 alone-spelt end at n (token ∷ []) h =
-    (elim (allows Session token) as (λ b. allows Session token ≡ b → number_unless (if b then None else Some at) (token ∷ []) ≡ Ok n → IsAlone n (token ∷ [])) [
+    (elim (allows Session token) as (λ b. allows Session token ≡ b → number_unless (if b then None else Some at) (token ∷ []) ≡ Ok n
+    → IsAlone n (token ∷ [])) [
       | true ↦ λ allowed is. alone-so n token allowed (cc)
       | false ↦ λ bad is. absurd (cc)
     ]) refl h
 alone-spelt end at n (token ∷ (next ∷ rest)) h =
-    (elim (allows Session token) as (λ b. number_unless (if b then Some (at + length token + 1) else Some at) (token ∷ (next ∷ rest)) ≡ Ok n → IsAlone n (token ∷ (next ∷ rest))) [
+    (elim (allows Session token) as (λ b. number_unless (if b then Some (at + length token + 1) else Some at) (token ∷ (next ∷ rest)) ≡ Ok n
+    → IsAlone n (token ∷ (next ∷ rest))) [
       | true ↦ λ is. absurd (cc)
       | false ↦ λ is. absurd (cc)
     ]) h
@@ -100,8 +104,10 @@ asks-follow end n [] h = absurd (cc)
 asks-follow end n (word ∷ others) h =
     let answer : Result ℕ ℕ = session_alone end others (length word + 1) in
     (elim (bytes_eq word (codes "follow")) as (λ b. bytes_eq word (codes "follow") ≡ b
-    → (if b then follows answer else if bytes_eq word (codes "unfollow") then unfollows answer else Other) ≡ Follow n → AreWith (codes "follow") n (word ∷ others)) [
-      | true ↦ λ is asks. both-so (codes "follow") word n others ((bytes_eq-Decides word (codes "follow")).0 is) (alone-spelt end (length word + 1) n others (follows-ok answer n asks))
+    → (if b then follows answer else if bytes_eq word (codes "unfollow") then unfollows answer else Other) ≡ Follow n
+    → AreWith (codes "follow") n (word ∷ others)) [
+      | true ↦ λ is asks. both-so (codes "follow") word n others ((bytes_eq-Decides word (codes "follow")).0 is)
+          (alone-spelt end (length word + 1) n others (follows-ok answer n asks))
       | false ↦ λ other asks. absurd (never-follows (bytes_eq word (codes "unfollow")) answer n asks)
     ]) refl h
 
@@ -109,12 +115,15 @@ asks-unfollow : (end n : ℕ) (ts : List (List ℕ)) → tokens_ask end ts ≡ U
 asks-unfollow end n [] h = absurd (cc)
 asks-unfollow end n (word ∷ others) h =
     let answer : Result ℕ ℕ = session_alone end others (length word + 1) in
-    (elim (bytes_eq word (codes "follow")) as (λ b. (if b then follows answer else if bytes_eq word (codes "unfollow") then unfollows answer else Other) ≡ Unfollow n
+    (elim (bytes_eq word (codes "follow")) as (λ b. (if b then follows answer else if bytes_eq word (codes "unfollow") then unfollows answer
+    else Other) ≡ Unfollow n
     → AreWith (codes "unfollow") n (word ∷ others)) [
       | true ↦ λ asks. absurd (never-unfollows answer n asks)
-      | false ↦ (elim (bytes_eq word (codes "unfollow")) as (λ b. bytes_eq word (codes "unfollow") ≡ b → (if b then unfollows answer else Other) ≡ Unfollow n
+      | false ↦ (elim (bytes_eq word (codes "unfollow")) as (λ b. bytes_eq word (codes "unfollow") ≡ b
+          → (if b then unfollows answer else Other) ≡ Unfollow n
           → AreWith (codes "unfollow") n (word ∷ others)) [
-            | true ↦ λ is asks. both-so (codes "unfollow") word n others ((bytes_eq-Decides word (codes "unfollow")).0 is) (alone-spelt end (length word + 1) n others (unfollows-ok answer n asks))
+            | true ↦ λ is asks. both-so (codes "unfollow") word n others ((bytes_eq-Decides word (codes "unfollow")).0 is)
+                (alone-spelt end (length word + 1) n others (unfollows-ok answer n asks))
             | false ↦ λ other asks. absurd (cc)
           ]) refl
     ]) h
@@ -156,10 +165,12 @@ unfolding kind_of
 unfollow-unknown = refl
 
 -- a line whose first word is unknown spells no request
-never-read : (end : ℕ) (word known : List ℕ) (others : List (List ℕ)) (r : Request) → word ≡ known → kind_of known ≡ None → read_by (tokens_fault end (word ∷ others)) (named (word ∷ others)) ≡ Ok r → ⊥
+never-read : (end : ℕ) (word known : List ℕ) (others : List (List ℕ)) (r : Request) → word ≡ known → kind_of known ≡ None
+    → read_by (tokens_fault end (word ∷ others)) (named (word ∷ others)) ≡ Ok r → ⊥
 never-read end word known others r same none read =
     let unknown : kind_of word ≡ None = ap kind_of same ∙ none in
-    let bad : read_by (tokens_fault end (word ∷ others)) (named (word ∷ others)) ≡ Err 0 = ap (λ k. read_by (kind_fault end k others (length word + 1)) (named (word ∷ others))) unknown in
+    let bad : read_by (tokens_fault end (word ∷ others))
+    (named (word ∷ others)) ≡ Err 0 = ap (λ k. read_by (kind_fault end k others (length word + 1)) (named (word ∷ others))) unknown in
     let clash : ◌≡◌ {A = Result Request ℕ} (Err 0) (Ok r) = sym bad ∙ read in
     cc
 
@@ -169,11 +180,14 @@ asks-nothing end (word ∷ others) r read =
     let answer : Result ℕ ℕ = session_alone end others (length word + 1) in
     (elim (bytes_eq word (codes "follow")) as (λ b. bytes_eq word (codes "follow") ≡ b
     → (if b then follows answer else if bytes_eq word (codes "unfollow") then unfollows answer else Other) ≡ Other) [
-      | true ↦ λ is. absurd (never-read end word (codes "follow") others r ((bytes_eq-Decides word (codes "follow")).0 is) follow-unknown read)
-      | false ↦ λ not. (elim (bytes_eq word (codes "unfollow")) as (λ b. bytes_eq word (codes "unfollow") ≡ b → (if b then unfollows answer else Other) ≡ Other) [
-        | true ↦ λ is. absurd (never-read end word (codes "unfollow") others r ((bytes_eq-Decides word (codes "unfollow")).0 is) unfollow-unknown read)
-        | false ↦ λ other. refl
-      ]) refl
+      | true ↦ λ is. absurd (never-read end word (codes "follow") others r
+          ((bytes_eq-Decides word (codes "follow")).0 is) follow-unknown read)
+      | false ↦ λ not. (elim (bytes_eq word (codes "unfollow")) as (λ b. bytes_eq word (codes "unfollow") ≡ b
+          → (if b then unfollows answer else Other) ≡ Other) [
+            | true ↦ λ is. absurd (never-read end word (codes "unfollow") others r
+                ((bytes_eq-Decides word (codes "unfollow")).0 is) unfollow-unknown read)
+            | false ↦ λ other. refl
+          ]) refl
     ]) refl
 
 pub request-asks-nothing : (line : List ℕ) (r : Request) → read_line line ≡ Ok r → live_line line ≡ Other

@@ -34,13 +34,15 @@ AreChanged names (edit ∷ later) (frame ∷ frames) (one ∷ others) =
     Changes names (EditOf (name_of edit)) frame one × AreChanged names later frames others
 
 -- these ids stand behind others
-pub record AddsChanged (names : List ℕ → Option ℕ → Type 0) (edits : List Edit) (frames : List Frame) (before now : List (Option ℕ)) : Type 0 where
+pub record AddsChanged (names : List ℕ → Option ℕ → Type 0) (edits : List Edit) (frames : List Frame)
+    (before now : List (Option ℕ)) : Type 0 where
   pub series : List (Option ℕ)
   pub changed : AreChanged names edits frames series
   pub are : now ≡ before ++ series
 
 -- the followed sessions that the edits are pushed to, where they were answered by these frames
-pub record ArePushedTo (names : List ℕ → Option ℕ → Type 0) (sessions : List Session) (edits : List Edit) (frames : List Frame) (followed pushed : List ℕ) : Type 0 where
+pub record ArePushedTo (names : List ℕ → Option ℕ → Type 0) (sessions : List Session) (edits : List Edit) (frames : List Frame)
+    (followed pushed : List ℕ) : Type 0 where
   pub series : List (Option ℕ)
   pub changed : AreChanged names edits frames series
   pub pushed_to : pushed ≡ followers_of series sessions followed

@@ -15,13 +15,15 @@ use Rattle.live_view.specs.Replies.{FollowsUnfiltered, followers, shows}
 abbrev pub EditsGoToFollowers : Type 0
 EditsGoToFollowers =
     (series n : ℕ) (sessions : List Session) (followed : List ℕ)
-    → Contains (followers (Some series) sessions followed) n ↔ (Contains followed n × IsTrue (shows series (last_of (session_of n sessions))))
+    → Contains (followers (Some series) sessions followed) n ↔ (Contains followed n
+    × IsTrue (shows series (last_of (session_of n sessions))))
 
 -- Edits of several series are pushed to just the followed sessions whose last view is one of one of them.
 abbrev pub GroupsGoToFollowers : Type 0
 GroupsGoToFollowers =
     (series : List (Option ℕ)) (n : ℕ) (sessions : List Session) (followed : List ℕ)
-    → Contains (followers_of series sessions followed) n ↔ (Contains followed n × IsTrue (shows_one series (last_of (session_of n sessions))))
+    → Contains (followers_of series sessions followed) n ↔ (Contains followed n
+    × IsTrue (shows_one series (last_of (session_of n sessions))))
 
 -- Where a session is followed by a view without a filter, no view on as many columns needs more coefficients than its client keeps.
 abbrev pub FollowedViewsFit : Type 0

@@ -156,7 +156,8 @@ module _ {S F : Type 0} {g : Ghosts S F} {streams : StreamGhosts S} where
   pub keeps_none : {so : Type 0} (at : Live S F g streams) → so → Keeps so at at
   keeps_none at are = record { changed = are; followed_same = refl; pending_same = refl }
 
-  pub keeps_then : {one two both : Type 0} (old between new : Live S F g streams) → (one → two → both) → Keeps one old between → Keeps two between new → Keeps both old new
+  pub keeps_then : {one two both : Type 0} (old between new : Live S F g streams) → (one → two → both) → Keeps one old between
+      → Keeps two between new → Keeps both old new
   keeps_then old between new join first second = record {
     changed = join first.changed second.changed;
     followed_same = second.followed_same ∙ first.followed_same;
@@ -164,4 +165,8 @@ module _ {S F : Type 0} {g : Ghosts S F} {streams : StreamGhosts S} where
   }
 
   pub keeps_so : {one two : Type 0} (old new : Live S F g streams) → (one → two) → Keeps one old new → Keeps two old new
-  keeps_so old new more keeps = record { changed = more keeps.changed; followed_same = keeps.followed_same; pending_same = keeps.pending_same }
+  keeps_so old new more keeps = record {
+    changed = more keeps.changed;
+    followed_same = keeps.followed_same;
+    pending_same = keeps.pending_same;
+  }

@@ -1,5 +1,6 @@
 -- The answers to the lines that follow a session and end it, and what other answers mean for those that follow.
-use Rattle.std.specs.Prelude.{◌≡◌, ℕ, ◌+◌, ◌*◌, Bool, true, false, ◌==◌, ◌&&◌, nat_lt, is_none, if◌then◌else◌, List, [], filter, Option, None, Some}
+use Rattle.std.specs.Prelude.{◌≡◌, ℕ, ◌+◌, ◌*◌, Bool, true, false, ◌==◌, ◌&&◌, nat_lt, is_none, if◌then◌else◌, List, [], filter, Option}
+use Rattle.std.specs.Prelude.{None, Some}
 use Rattle.series_book.specs.declared.refusals.Refusal.{Refusal}
 use Rattle.series_book.specs.declared.refusals.Refusal.TheVariants.{UnknownSession, NoView}
 use Rattle.series_book.specs.Refusals.{number_of, pair_of}

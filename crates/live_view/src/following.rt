@@ -22,7 +22,8 @@ impl<S: Stepper> Live<S> {
     pub(crate) fn follow(&mut self, session: u32) -> Result<Frame, AllocError>
         requires number { IsSession session }
         requires idle { live.IsIdle self.old }
-        ensures reply { IfOk result (λ answer. live.AnswersItself (follow_reply session (session_of session (live.sessions self.old))) answer self.old self.new) }
+        ensures reply { IfOk result (λ answer. live.AnswersItself
+            (follow_reply session (session_of session (live.sessions self.old))) answer self.old self.new) }
         ensures fits { IfOk result Fits }
         ensures unchanged { OnErr result (live.Stays self.old self.new) }
     {

@@ -62,7 +62,8 @@ fn pushed_to<S: Stepper>(
     frames: &[Frame],
     followed: &[u32],
 ) -> Result<Vec<u32>, AllocError>
-    ensures { IfOk result (λ pushed. ArePushedTo (S.names stepper.now) (S.sessions stepper.now) edits.now frames.now followed.now pushed.items) }
+    ensures { IfOk result (λ pushed. ArePushedTo (S.names stepper.now)
+        (S.sessions stepper.now) edits.now frames.now followed.now pushed.items) }
 {
     let mut series = Vec::new(alloc);
     add_changed(stepper, edits, frames, &mut series)?;

@@ -54,7 +54,8 @@ pub fn groups_go_to_followers()
 /// where zooms keep the columns, no push is too large.
 pub fn followed_views_fit()
     ensures needed { FollowedViewsFit }
-    ensures columns { (session : Session) (view : ViewSpec) → FollowsUnfiltered session view → IsCapacity session.cache.capacity → view.grid.w ≤ 1247 }
+    ensures columns { (session : Session) (view : ViewSpec) → FollowsUnfiltered session view → IsCapacity session.cache.capacity
+        → view.grid.w ≤ 1247 }
 {
     keys_of_a_view_are_few();
 }

@@ -37,5 +37,6 @@ impl<S: Stepper> Streams for Live<S> {
 
     ghost sends_more = { λ count more old new within. live.keeps_so old new (S.sends_more count more old.stepper new.stepper within) };
 
-    ghost sends_then = { λ first second old between new. live.keeps_then old between new (S.sends_then first second old.stepper between.stepper new.stepper) };
+    ghost sends_then = { λ first second old between new. live.keeps_then old between new
+        (S.sends_then first second old.stepper between.stepper new.stepper) };
 }

@@ -41,7 +41,8 @@ along_of_point (q ∷ ps) zero p x y e at =
     inl (subst P same at)
 along_of_point (q ∷ ps) (suc n) p x y e at = inr (inr (along_of_point ps n p x y e at))
 
-along_of_between : (ps : List Point) (n : ℕ) (p q : Point) (x : ℕ) (y : ℤ) → slice_get ps n ≡ Some p → slice_get ps (suc n) ≡ Some q → On p q x y → AlongPoints ps x y
+along_of_between : (ps : List Point) (n : ℕ) (p q : Point) (x : ℕ) (y : ℤ) → slice_get ps n ≡ Some p → slice_get ps (suc n) ≡ Some q
+    → On p q x y → AlongPoints ps x y
 along_of_between [] n p q x y e f on = absurd (cc)
 along_of_between (a ∷ []) zero p q x y e f on = absurd (cc)
 along_of_between (a ∷ (b ∷ ps)) zero p q x y e f on =

@@ -1,5 +1,6 @@
 -- The rows of points can be drawn.
-use Rattle.std.proofs.Common.{ℕ, ℤ, ◌≡◌, ◌-◌, ◌<◌, ◌≤ℤ◌, refl, ap, sym, ◌∙◌, subst, List, [], ◌∷◌, filter, length, slice_get, slice_index_or, Some, All, ◌==◌, true, false, eqb-true}
+use Rattle.std.proofs.Common.{ℕ, ℤ, ◌≡◌, ◌-◌, ◌<◌, ◌≤ℤ◌, refl, ap, sym, ◌∙◌, subst, List, [], ◌∷◌, filter, length, slice_get}
+use Rattle.std.proofs.Common.{slice_index_or, Some, All, ◌==◌, true, false, eqb-true}
 use Rattle.std.proofs.lemmas.Bool.{eqb-false}
 use Rattle.std.proofs.lemmas.Option.{slice_get_within, get_or_from_slice_get}
 use Rattle.std.proofs.lemmas.List.Elements.{All-head, All-tail, All-map, All-filter, All-contains}
@@ -37,7 +38,8 @@ column_drawn w c v (s ∷ xs) all e =
           (ap (λ l. slice_get l 0) (sym (values_in-other c s xs (eqb-false s.x c other))) ∙ e)
     ] refl
 
-row_drawable : (w : ℕ) (xs : List Point) (r : Row) → All (λ s. s.x < w) xs → All (λ s. IsValue s.y) xs → Sums r (values_in r.column xs) → IsDrawable w r
+row_drawable : (w : ℕ) (xs : List Point) (r : Row) → All (λ s. s.x < w) xs → All (λ s. IsValue s.y) xs → Sums r (values_in r.column xs)
+    → IsDrawable w r
 row_drawable w xs r drawn values sums =
     let all : All IsValue (values_in r.column xs) = values_hold IsValue r.column xs values in
     record {
@@ -50,7 +52,8 @@ row_drawable w xs r drawn values sums =
     }
 
 -- the rows of points in order can be drawn on the grid's canvas
-pub rows-drawable : (g : Grid) (points : List (ℤ × ℤ)) (rows : List Row) → AreInOrder g points → All (λ p. IsValue p.1) points → AreRowsOf g points rows → All (IsDrawable g.w) rows
+pub rows-drawable : (g : Grid) (points : List (ℤ × ℤ)) (rows : List Row) → AreInOrder g points → All (λ p. IsValue p.1) points
+    → AreRowsOf g points rows → All (IsDrawable g.w) rows
 rows-drawable g points rows order values own k d lt =
     let spot : ℤ × ℤ → Point = λ p. record { x = column g p.0; y = p.1 } in
     row_drawable g.w (spots g points) (slice_index_or rows k d)

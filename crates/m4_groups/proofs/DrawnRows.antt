@@ -44,7 +44,8 @@ pub starts : (q : Point) (ps : List Point) → Starts q (rows_from (q ∷ ps))
 starts q ps = put_starts q (rows_from ps)
 
 -- a point in the column of the row that follows
-same_column : (p q : Point) (r : Row) (rs : List Row) (x : ℕ) (y : ℤ) → p.x ≡ r.column → Begins q r → (IsAt p x y ⊎ (On p q x y ⊎ Drawn (r ∷ rs) x y)) ↔ Drawn (row_from p r ∷ rs) x y
+same_column : (p q : Point) (r : Row) (rs : List Row) (x : ℕ) (y : ℤ) → p.x ≡ r.column → Begins q r
+    → (IsAt p x y ⊎ (On p q x y ⊎ Drawn (r ∷ rs) x y)) ↔ Drawn (row_from p r ∷ rs) x y
 same_column p q r rs x y e b = (to, back)
   where
     to : IsAt p x y ⊎ (On p q x y ⊎ Drawn (r ∷ rs) x y) → Drawn (row_from p r ∷ rs) x y
@@ -71,7 +72,8 @@ one_fill p x y = (
 )
 
 -- a point before the column of the row that follows
-new_column : (p q : Point) (r : Row) (rs : List Row) (x : ℕ) (y : ℤ) → Begins q r → (IsAt p x y ⊎ (On p q x y ⊎ Drawn (r ∷ rs) x y)) ↔ Drawn (row_of_one p ∷ (r ∷ rs)) x y
+new_column : (p q : Point) (r : Row) (rs : List Row) (x : ℕ) (y : ℤ) → Begins q r
+    → (IsAt p x y ⊎ (On p q x y ⊎ Drawn (r ∷ rs) x y)) ↔ Drawn (row_of_one p ∷ (r ∷ rs)) x y
 new_column p q r rs x y b = (to, back)
   where
     to : IsAt p x y ⊎ (On p q x y ⊎ Drawn (r ∷ rs) x y) → Drawn (row_of_one p ∷ (r ∷ rs)) x y
@@ -89,9 +91,11 @@ new_column p q r rs x y b = (to, back)
     back (inr (inr rest)) = inr (inr rest)
 
 -- the pixels of a point more, where those of the rest are drawn as rows
-one_more : (p q : Point) (r : Row) (rs : List Row) (x : ℕ) (y : ℤ) → Begins q r → (IsAt p x y ⊎ (On p q x y ⊎ Drawn (r ∷ rs) x y)) ↔ Drawn (put_first p (r ∷ rs)) x y
+one_more : (p q : Point) (r : Row) (rs : List Row) (x : ℕ) (y : ℤ) → Begins q r
+    → (IsAt p x y ⊎ (On p q x y ⊎ Drawn (r ∷ rs) x y)) ↔ Drawn (put_first p (r ∷ rs)) x y
 one_more p q r rs x y b =
-    elim (p.x == r.column) as (λ t. (p.x == r.column) ≡ t → (IsAt p x y ⊎ (On p q x y ⊎ Drawn (r ∷ rs) x y)) ↔ Drawn (cond t (row_from p r ∷ rs) (row_of_one p ∷ (r ∷ rs))) x y) [
+    elim (p.x == r.column) as (λ t. (p.x == r.column) ≡ t
+    → (IsAt p x y ⊎ (On p q x y ⊎ Drawn (r ∷ rs) x y)) ↔ Drawn (cond t (row_from p r ∷ rs) (row_of_one p ∷ (r ∷ rs))) x y) [
       | true ↦ λ e. same_column p q r rs x y (eqb-true p.x r.column e) b
       | false ↦ λ e. new_column p q r rs x y b
     ] refl
@@ -102,7 +106,8 @@ replaced A B C D E ab cde = (
   λ e. elim (cde.1 e) [ inl k ↦ inl k | inr k ↦ elim k [ inl m ↦ inr (inl m) | inr m ↦ inr (inr (ab.1 m)) ] ],
 )
 
-extended : (p q : Point) (rs : List Row) (x : ℕ) (y : ℤ) (A : Type 0) → Starts q rs → A ↔ Drawn rs x y → (IsAt p x y ⊎ (On p q x y ⊎ A)) ↔ Drawn (put_first p rs) x y
+extended : (p q : Point) (rs : List Row) (x : ℕ) (y : ℤ) (A : Type 0) → Starts q rs → A ↔ Drawn rs x y
+    → (IsAt p x y ⊎ (On p q x y ⊎ A)) ↔ Drawn (put_first p rs) x y
 extended p q rs x y A s ih =
     let P : List Row → Type 0 = λ l. A ↔ Drawn l x y → (IsAt p x y ⊎ (On p q x y ⊎ A)) ↔ Drawn (put_first p l) x y in
     subst P (sym s.is)

@@ -1,5 +1,6 @@
 -- The last row.
-use Rattle.std.proofs.Common.{ℕ, ℤ, zero, suc, set, ◌≡◌, ◌≢◌, ◌+◌, ◌<◌, ◌≤ℤ◌, ◌<ℤ◌, ◌↔◌, arith, refl, subst, length, get_or, ap, sym, ◌∙◌, List, [], ◌∷◌, ◌++◌, Option, Some, true, false, cond, ◌==◌, eqb-true}
+use Rattle.std.proofs.Common.{ℕ, ℤ, zero, suc, set, ◌≡◌, ◌≢◌, ◌+◌, ◌<◌, ◌≤ℤ◌, ◌<ℤ◌, ◌↔◌, arith, refl, subst, length, get_or, ap, sym, ◌∙◌}
+use Rattle.std.proofs.Common.{List, [], ◌∷◌, ◌++◌, Option, Some, true, false, cond, ◌==◌, eqb-true}
 use Rattle.chart_grid.specs.declared.grid.Grid.{Grid}
 use Rattle.chart_grid.specs.Projection.{InWindow, column}
 use Rattle.chart_grid.specs.Slots.{border}
@@ -44,27 +45,32 @@ put_column (r ∷ (q ∷ rs)) s = behind r (put_last (q ∷ rs) s) s.x (put_colu
 pub put_last-new : (rs : List Row) (s : Point) → (last_column rs ≡ Some s.x → ⊥) → put_last rs s ≡ rs ++ row_of_one s ∷ []
 put_last-new [] s other = refl
 put_last-new (r ∷ []) s other =
-    elim (s.x == r.column) as (λ b. (s.x == r.column) ≡ b → cond b (row_to r s.y ∷ []) (r ∷ (row_of_one s ∷ [])) ≡ r ∷ (row_of_one s ∷ [])) [
+    elim (s.x == r.column) as (λ b. (s.x == r.column) ≡ b
+    → cond b (row_to r s.y ∷ []) (r ∷ (row_of_one s ∷ [])) ≡ r ∷ (row_of_one s ∷ [])) [
       | true ↦ λ e. absurd (other (ap Some (sym (eqb-true s.x r.column e))))
       | false ↦ λ e. refl
     ] refl
 put_last-new (r ∷ (q ∷ rs)) s other = ap (λ l. r ∷ l) (put_last-new (q ∷ rs) s other)
 
 -- a point of the last row's column changes that row alone
-pub put_last-own : (rs : List Row) (n c : ℕ) (v : ℤ) (r : Row) → length rs ≡ suc n → r ≡ get_or rs n r → last_column rs ≡ Some c → put_last rs (record { x = c; y = v }) ≡ set rs n (row_to r v)
+pub put_last-own : (rs : List Row) (n c : ℕ) (v : ℤ) (r : Row) → length rs ≡ suc n → r ≡ get_or rs n r → last_column rs ≡ Some c
+    → put_last rs (record { x = c; y = v }) ≡ set rs n (row_to r v)
 put_last-own rs n c v r l er e =
     put_last-same rs n (record { x = c; y = v }) r l er (sym (ap (λ (q : Row). q.column) er ∙ last_row rs n c r l e))
 
 -- rows with a row of one point behind them are the rows with that point
-pub new_rows : (rs new : List Row) (c x : ℕ) (v : ℤ) (r : Row) → c ≡ x → last_column rs ≢ Some x → r ≡ row_of_one (record { x = c; y = v }) → new ≡ rs ++ r ∷ [] → new ≡ put_last rs (record { x = x; y = v })
+pub new_rows : (rs new : List Row) (c x : ℕ) (v : ℤ) (r : Row) → c ≡ x → last_column rs ≢ Some x → r ≡ row_of_one (record { x = c; y = v })
+    → new ≡ rs ++ r ∷ [] → new ≡ put_last rs (record { x = x; y = v })
 new_rows rs new c x v r c_is other r_is new_is =
-    new_is ∙ ap (λ q. rs ++ q ∷ []) (r_is ∙ ap (λ k. row_of_one (record { x = k; y = v })) c_is) ∙ sym (put_last-new rs (record { x = x; y = v }) other)
+    new_is ∙ ap (λ q. rs ++ q ∷ []) (r_is ∙ ap (λ k. row_of_one (record { x = k; y = v })) c_is)
+    ∙ sym (put_last-new rs (record { x = x; y = v }) other)
 
 abbrev pub Owns : Grid → List Row → ℤ → ℤ → Type 0
 Owns g rows from next = (t : ℤ) → InWindow g t → ((from ≤ℤ t) × (t <ℤ next)) ↔ (last_column rows ≡ Some (column g t))
 
 -- a point of the last row's column leaves its ends
-pub owns_more : (g : Grid) (rows new : List Row) (from next t v : ℤ) → Owns g rows from next → last_column rows ≡ Some (column g t) → new ≡ put_last rows (record { x = column g t; y = v }) → Owns g new from next
+pub owns_more : (g : Grid) (rows new : List Row) (from next t v : ℤ) → Owns g rows from next → last_column rows ≡ Some (column g t)
+    → new ≡ put_last rows (record { x = column g t; y = v }) → Owns g new from next
 owns_more g rows new from next t v owns own is = λ u shown.
     let same : last_column rows ≡ last_column new = own ∙ sym (ap last_column is ∙ put_column rows (record { x = column g t; y = v })) in
     let P : Option ℕ → Type 0 = λ o. ((from ≤ℤ u) × (u <ℤ next)) ↔ (o ≡ Some (column g u)) in
@@ -74,7 +80,8 @@ inside_some : (a b : ℕ) → Some a ≡ Some b → a ≡ b
 inside_some a b e = cc
 
 -- a point of another column brings that column's ends
-pub owns_new : (g : Grid) (rows new : List Row) (from next t v : ℤ) → from ≡ border g (column g t) → next ≡ border g (column g t + 1) → new ≡ put_last rows (record { x = column g t; y = v }) → Owns g new from next
+pub owns_new : (g : Grid) (rows new : List Row) (from next t v : ℤ) → from ≡ border g (column g t) → next ≡ border g (column g t + 1)
+    → new ≡ put_last rows (record { x = column g t; y = v }) → Owns g new from next
 owns_new g rows new from next t v begins ends is = λ u shown.
     let last : last_column new ≡ Some (column g t) = ap last_column is ∙ put_column rows (record { x = column g t; y = v }) in
     let between = column-between g (column g t) u shown in

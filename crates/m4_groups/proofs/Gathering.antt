@@ -1,5 +1,6 @@
 -- A point more, in order of time.
-use Rattle.std.proofs.Common.{suc, ℕ, ℤ, ◌≡◌, ◌-◌, ◌<◌, ◌≤◌, ◌<ℤ◌, inl, inr, arith, refl, ap, sym, ◌∙◌, subst, List, [], ◌∷◌, ◌++◌, map, length, get_or, slice_get, option_map, Option, Some, IfSome, All, AllPairs, length-append}
+use Rattle.std.proofs.Common.{suc, ℕ, ℤ, ◌≡◌, ◌-◌, ◌<◌, ◌≤◌, ◌<ℤ◌, inl, inr, arith, refl, ap, sym, ◌∙◌, subst, List, [], ◌∷◌, ◌++◌, map}
+use Rattle.std.proofs.Common.{length, get_or, slice_get, option_map, Option, Some, IfSome, All, AllPairs, length-append}
 use Rattle.std.proofs.lemmas.Int.{ints}
 use Rattle.std.proofs.lemmas.Bool.{cases_lt}
 use Rattle.std.proofs.lemmas.List.{map_push, length-map}
@@ -41,17 +42,21 @@ spots-right g (p ∷ ps) o =
     (spots-right g ps (order-tail g p ps o))
 
 -- the rows of points in order are the folded ones
-pub rows-folded : (g : Grid) (points : List (ℤ × ℤ)) (rows : List Row) → AreInOrder g points → AreRowsOf g points rows → rows ≡ rows_from (spots g points)
+pub rows-folded : (g : Grid) (points : List (ℤ × ℤ)) (rows : List Row) → AreInOrder g points → AreRowsOf g points rows
+    → rows ≡ rows_from (spots g points)
 rows-folded g points rows o h =
     AreRows-one (spots g points) rows (rows_from (spots g points)) h (rows_from-are (spots g points) (spots-right g points o))
 
-last_time : (points : List (ℤ × ℤ)) (d : ℤ × ℤ) → 0 < length points → slice_get (map (λ p. p.0) points) (length points - 1) ≡ Some (get_or points (length points - 1) d).0
+last_time : (points : List (ℤ × ℤ)) (d : ℤ × ℤ) → 0 < length points
+    → slice_get (map (λ p. p.0) points) (length points - 1) ≡ Some (get_or points (length points - 1) d).0
 last_time points d some =
     slice_get-map (λ p. p.0) points (length points - 1)
     ∙ ap (option_map (λ p. p.0)) (slice_get-get_or points (length points - 1) d (omega (arith, some)))
 
 -- each point is before a time that is later than the latest
-all-before : (points : List (ℤ × ℤ)) (l : Option ℤ) (t : ℤ) → AllPairs (λ p q. p.0 <ℤ q.0) points → l ≡ slice_get (map (λ p. p.0) points) (length points - 1) → IfSome l (λ u. u <ℤ t) → (k : ℕ) (d : ℤ × ℤ) → k < length points → (get_or points k d).0 <ℤ t
+all-before : (points : List (ℤ × ℤ)) (l : Option ℤ) (t : ℤ) → AllPairs (λ p q. p.0 <ℤ q.0) points
+    → l ≡ slice_get (map (λ p. p.0) points) (length points - 1) → IfSome l (λ u. u <ℤ t) → (k : ℕ) (d : ℤ × ℤ) → k < length points
+    → (get_or points k d).0 <ℤ t
 all-before points l t rising e later k d lt =
     let P : Option ℤ → Type 0 = λ o. IfSome o (λ u. u <ℤ t) in
     let last : (get_or points (length points - 1) d).0 <ℤ t = subst P (e ∙ last_time points d (omega (arith, lt))) later in
@@ -64,7 +69,9 @@ all-before points l t rising e later k d lt =
     ]
 
 -- the order of a list with a later point
-pub order-push : (g : Grid) (points : List (ℤ × ℤ)) (l : Option ℤ) (t v : ℤ) → AreInOrder g points → l ≡ slice_get (map (λ p. p.0) points) (length points - 1) → InWindow g t → IfSome l (λ u. u <ℤ t) → AreInOrder g (points ++ (t, v) ∷ [])
+pub order-push : (g : Grid) (points : List (ℤ × ℤ)) (l : Option ℤ) (t v : ℤ) → AreInOrder g points
+    → l ≡ slice_get (map (λ p. p.0) points) (length points - 1) → InWindow g t → IfSome l (λ u. u <ℤ t)
+    → AreInOrder g (points ++ (t, v) ∷ [])
 order-push g points l t v o e shown later = record {
   shown = All-push (λ p. InWindow g p.0) points (t, v) o.shown shown;
   rising = all_pairs_push (λ p q. p.0 <ℤ q.0) points (t, v) o.rising (all-before points l t o.rising e later);
@@ -74,7 +81,8 @@ last-pushed : (times : List ℤ) (n : ℕ) (t : ℤ) → n ≡ length times → 
 last-pushed [] n t e = ap (slice_get (t ∷ [])) e
 last-pushed (u ∷ us) n t e = ap (slice_get (u ∷ (us ++ t ∷ []))) e ∙ last-pushed us (length us) t refl
 
-latest-push : (points : List (ℤ × ℤ)) (t v : ℤ) → Some t ≡ slice_get (map (λ p. p.0) (points ++ (t, v) ∷ [])) (length (points ++ (t, v) ∷ []) - 1)
+latest-push : (points : List (ℤ × ℤ)) (t v : ℤ) → Some t ≡ slice_get (map (λ p. p.0) (points ++ (t, v) ∷ []))
+    (length (points ++ (t, v) ∷ []) - 1)
 latest-push points t v =
     let times : List ℤ = map (λ p. p.0) points in
     let n : length (points ++ (t, v) ∷ []) - 1 ≡ length times =
@@ -83,7 +91,9 @@ latest-push points t v =
     ∙ last-pushed times (length (points ++ (t, v) ∷ []) - 1) t n)
 
 -- what was gathered of a list with a point more
-pub IsGathered-push : (points : List (ℤ × ℤ)) (s : Gathered) (t v : ℤ) (rows : List Row) → InWindow s.grid t → IsLater s t → rows ≡ put_last s.rows (record { x = column s.grid t; y = v }) → IsGathered points s → IsGathered (points ++ (t, v) ∷ []) (record { grid = s.grid; rows = rows; latest = Some t })
+pub IsGathered-push : (points : List (ℤ × ℤ)) (s : Gathered) (t v : ℤ) (rows : List Row) → InWindow s.grid t → IsLater s t
+    → rows ≡ put_last s.rows (record { x = column s.grid t; y = v }) → IsGathered points s
+    → IsGathered (points ++ (t, v) ∷ []) (record { grid = s.grid; rows = rows; latest = Some t })
 IsGathered-push points s t v rows shown later e h =
     let g : Grid = s.grid in
     let order : AreInOrder g (points ++ (t, v) ∷ []) = order-push g points s.latest t v h.order h.latest shown later in
@@ -105,7 +115,8 @@ last-shown g [] t v o = All-head (λ q. InWindow g q.0) (t, v) [] o.shown
 last-shown g (p ∷ ps) t v o = last-shown g ps t v (order-tail g p (ps ++ (t, v) ∷ []) o)
 
 -- and is later than the one before it
-last-later : (g : Grid) (points : List (ℤ × ℤ)) (t v : ℤ) → AreInOrder g (points ++ (t, v) ∷ []) → IfSome (slice_get (map (λ p. p.0) points) (length points - 1)) (λ u. u <ℤ t)
+last-later : (g : Grid) (points : List (ℤ × ℤ)) (t v : ℤ) → AreInOrder g (points ++ (t, v) ∷ [])
+    → IfSome (slice_get (map (λ p. p.0) points) (length points - 1)) (λ u. u <ℤ t)
 last-later g [] t v o = tt
 last-later g (p ∷ []) t v o = All-head (λ q. p.0 <ℤ q.0) (t, v) [] (AllPairs-head (λ a b. a.0 <ℤ b.0) p ((t, v) ∷ []) o.rising)
 last-later g (p ∷ (q ∷ ps)) t v o =
@@ -114,7 +125,8 @@ last-later g (p ∷ (q ∷ ps)) t v o =
     subst P e (last-later g (q ∷ ps) t v (order-tail g p ((q ∷ ps) ++ (t, v) ∷ []) o))
 
 -- the next point of a list in order may be pushed
-pub point-follows : (s : Gathered) (points : List (ℤ × ℤ)) (t v : ℤ) → AreInOrder s.grid (points ++ (t, v) ∷ []) → IsGathered points s → InWindow s.grid t × IsLater s t
+pub point-follows : (s : Gathered) (points : List (ℤ × ℤ)) (t v : ℤ) → AreInOrder s.grid (points ++ (t, v) ∷ []) → IsGathered points s
+    → InWindow s.grid t × IsLater s t
 point-follows s points t v o h =
     let P : Option ℤ → Type 0 = λ l. IfSome l (λ u. u <ℤ t) in
     (last-shown s.grid points t v o, subst P (sym h.latest) (last-later s.grid points t v o))

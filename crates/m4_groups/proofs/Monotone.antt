@@ -43,16 +43,31 @@ max_kept f keeps a b =
 abbrev pub point_with : (ℤ → ℤ) → Point → Point
 point_with f p = record { x = p.x; y = f p.y }
 
-from_kept : (f : ℤ → ℤ) → Keeps f → (p : Point) (r : Row) (rs : List Row) → map (row_with f) (row_from p r ∷ rs) ≡ row_from (point_with f p) (record { column = r.column; first = f r.first; least = f r.least; greatest = f r.greatest; last = f r.last }) ∷ map (row_with f) rs
+from_kept : (f : ℤ → ℤ) → Keeps f → (p : Point) (r : Row) (rs : List Row)
+    → map (row_with f) (row_from p r ∷ rs) ≡ row_from (point_with f p)
+    (record { column = r.column; first = f r.first; least = f r.least; greatest = f r.greatest; last = f r.last }) ∷ map (row_with f) rs
 from_kept f keeps p r rs =
-    let row : ℤ → ℤ → List Row = λ a b. record { column = r.column; first = f p.y; least = a; greatest = b; last = f r.last } ∷ map (row_with f) rs in
+    let row : ℤ → ℤ → List Row = λ a b. record {
+      column = r.column;
+      first = f p.y;
+      least = a;
+      greatest = b;
+      last = f r.last;
+    } ∷ map (row_with f) rs in
     ap₂ row (min_kept f keeps p.y r.least) (max_kept f keeps p.y r.greatest)
 
-put_kept : (f : ℤ → ℤ) → Keeps f → (p : Point) (rs : List Row) → map (row_with f) (put_first p rs) ≡ put_first (point_with f p) (map (row_with f) rs)
+put_kept : (f : ℤ → ℤ) → Keeps f → (p : Point) (rs : List Row)
+    → map (row_with f) (put_first p rs) ≡ put_first (point_with f p) (map (row_with f) rs)
 put_kept f keeps p [] = refl
 put_kept f keeps p (r ∷ rs) =
     elim (p.x == r.column) as (λ t. map (row_with f) (cond t (row_from p r ∷ rs) (row_of_one p ∷ (r ∷ rs)))
-    ≡ cond t (row_from (point_with f p) (record { column = r.column; first = f r.first; least = f r.least; greatest = f r.greatest; last = f r.last }) ∷ map (row_with f) rs)
+    ≡ cond t (row_from (point_with f p) (record {
+      column = r.column;
+      first = f r.first;
+      least = f r.least;
+      greatest = f r.greatest;
+      last = f r.last;
+    }) ∷ map (row_with f) rs)
     (row_of_one (point_with f p) ∷ map (row_with f) (r ∷ rs))) [
       | true ↦ from_kept f keeps p r rs
       | false ↦ refl

@@ -1,12 +1,14 @@
 -- What is drawn, row by row.
-use Rattle.std.proofs.Common.{ℕ, ℤ, zero, suc, ◌≡◌, ◌<◌, ◌⊎◌, ◌↔◌, inl, inr, arith, refl, sym, ◌∙◌, subst, subst₂, List, [], ◌∷◌, take, slice_get, Some, IsTrue}
+use Rattle.std.proofs.Common.{ℕ, ℤ, zero, suc, ◌≡◌, ◌<◌, ◌⊎◌, ◌↔◌, inl, inr, arith, refl, sym, ◌∙◌, subst, subst₂, List, [], ◌∷◌, take}
+use Rattle.std.proofs.Common.{slice_get, Some, IsTrue}
 use Rattle.line_raster.specs.Canvas.{Canvas, Adds, black_at}
 use Rattle.line_raster.specs.Segment.{On, InFill}
 use Rattle.m4_groups.specs.declared.row.Row.{Row}
 use Rattle.m4_groups.specs.Drawn.{first_of, last_of, Drawn}
 
 -- one set of pixels after another
-pub both : (a b : ℕ → ℕ → Type 0) (first second third : Canvas) → Adds a first second → Adds b second third → Adds (λ x y. a x y ⊎ b x y) first third
+pub both : (a b : ℕ → ℕ → Type 0) (first second third : Canvas) → Adds a first second → Adds b second third
+    → Adds (λ x y. a x y ⊎ b x y) first third
 both a b first second third f g = record {
   width = g.width ∙ f.width;
   height = g.height ∙ f.height;
@@ -45,7 +47,8 @@ abbrev pub More : Row → Row → ℕ → ℤ → Type 0
 More q r x y = On (last_of q) (first_of r) x y ⊎ InFill r.column r.least r.greatest x y
 
 -- the first row alone
-pub first_drawn : (rs : List Row) (r : Row) (x : ℕ) (y : ℤ) → slice_get rs 0 ≡ Some r → InFill r.column r.least r.greatest x y ↔ Drawn (take 1 rs) x y
+pub first_drawn : (rs : List Row) (r : Row) (x : ℕ) (y : ℤ) → slice_get rs 0 ≡ Some r
+    → InFill r.column r.least r.greatest x y ↔ Drawn (take 1 rs) x y
 first_drawn [] r x y e = absurd (cc)
 first_drawn (a ∷ rs) r x y e =
     let same : r ≡ a = cc in
@@ -85,7 +88,8 @@ regrouped F O A B C e = (
 )
 
 -- one row more
-pub next_drawn : (rs : List Row) (j : ℕ) (q r : Row) (x : ℕ) (y : ℤ) → slice_get rs j ≡ Some q → slice_get rs (suc j) ≡ Some r → (Drawn (take (suc j) rs) x y ⊎ More q r x y) ↔ Drawn (take (suc (suc j)) rs) x y
+pub next_drawn : (rs : List Row) (j : ℕ) (q r : Row) (x : ℕ) (y : ℤ) → slice_get rs j ≡ Some q → slice_get rs (suc j) ≡ Some r
+    → (Drawn (take (suc j) rs) x y ⊎ More q r x y) ↔ Drawn (take (suc (suc j)) rs) x y
 next_drawn [] j q r x y e f = absurd (cc)
 next_drawn (a ∷ []) j q r x y e f = absurd (cc)
 next_drawn (a ∷ (b ∷ rs)) zero q r x y e f =

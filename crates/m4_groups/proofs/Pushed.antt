@@ -1,5 +1,6 @@
 -- The rows of points, with a point after the last.
-use Rattle.std.proofs.Common.{ℕ, ℤ, zero, subst, ◌≡◌, arith, refl, suc, length, get_or, set, ap, ap₂, sym, ◌∙◌, List, [], ◌∷◌, ◌++◌, Bool, true, false, cond, ◌==◌, eqb-true, eq-eqb}
+use Rattle.std.proofs.Common.{ℕ, ℤ, zero, subst, ◌≡◌, arith, refl, suc, length, get_or, set, ap, ap₂, sym, ◌∙◌, List, [], ◌∷◌, ◌++◌, Bool}
+use Rattle.std.proofs.Common.{true, false, cond, ◌==◌, eqb-true, eq-eqb}
 use Rattle.std.specs.Int.{int_min, int_max}
 use Rattle.std.proofs.lemmas.Int.{ints, clamps}
 use Rattle.line_raster.specs.declared.position.Point.{Point}
@@ -51,7 +52,8 @@ ends_joined p s r e =
       | false ↦ ap (λ l. row_of_one p ∷ l) (sym (at_true (s.x == r.column) _ _ e))
     ]
 
-ends_parted : (p s : Point) (r : Row) → (s.x == r.column) ≡ false → put_first p (r ∷ (row_of_one s ∷ [])) ≡ put_last (put_first p (r ∷ [])) s
+ends_parted : (p s : Point) (r : Row) → (s.x == r.column) ≡ false
+    → put_first p (r ∷ (row_of_one s ∷ [])) ≡ put_last (put_first p (r ∷ [])) s
 ends_parted p s r e =
     elim (p.x == r.column) as (λ u. cond u (row_from p r ∷ (row_of_one s ∷ [])) (row_of_one p ∷ (r ∷ (row_of_one s ∷ [])))
     ≡ put_last (cond u (row_from p r ∷ []) (row_of_one p ∷ (r ∷ []))) s) [
@@ -61,7 +63,8 @@ ends_parted p s r e =
 
 ends_apart : (p s : Point) (r : Row) → put_first p (end_with r s) ≡ put_last (put_first p (r ∷ [])) s
 ends_apart p s r =
-    elim (s.x == r.column) as (λ t. (s.x == r.column) ≡ t → put_first p (cond t (row_to r s.y ∷ []) (r ∷ (row_of_one s ∷ []))) ≡ put_last (put_first p (r ∷ [])) s) [
+    elim (s.x == r.column) as (λ t. (s.x == r.column) ≡ t
+    → put_first p (cond t (row_to r s.y ∷ []) (r ∷ (row_of_one s ∷ []))) ≡ put_last (put_first p (r ∷ [])) s) [
       | true ↦ λ e. ends_joined p s r e
       | false ↦ λ e. ends_parted p s r e
     ] refl
@@ -86,7 +89,8 @@ rows_from-push [] s = refl
 rows_from-push (p ∷ ps) s = ap (put_first p) (rows_from-push ps s) ∙ put_apart p s (rows_from ps)
 
 -- a point in the column of the last row changes that row alone
-pub put_last-same : (rs : List Row) (n : ℕ) (s : Point) (r : Row) → length rs ≡ suc n → r ≡ get_or rs n r → s.x ≡ r.column → put_last rs s ≡ set rs n (row_to r s.y)
+pub put_last-same : (rs : List Row) (n : ℕ) (s : Point) (r : Row) → length rs ≡ suc n → r ≡ get_or rs n r → s.x ≡ r.column
+    → put_last rs s ≡ set rs n (row_to r s.y)
 put_last-same [] n s r l e same = absurd (omega (arith, l))
 put_last-same (a ∷ []) zero s r l e same =
     let P : Row → Type 0 = λ q. end_with a s ≡ row_to q s.y ∷ [] in

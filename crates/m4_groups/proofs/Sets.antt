@@ -1,5 +1,6 @@
 -- The folded rows are those of the definition.
-use Rattle.std.proofs.Common.{ℕ, ℤ, suc, ◌≡◌, ◌<◌, ◌≤◌, arith, refl, ap, sym, ◌∙◌, subst, List, [], ◌∷◌, true, false, cond, ◌==◌, eqb-true, All, AllPairs, Contains}
+use Rattle.std.proofs.Common.{ℕ, ℤ, suc, ◌≡◌, ◌<◌, ◌≤◌, arith, refl, ap, sym, ◌∙◌, subst, List, [], ◌∷◌, true, false, cond, ◌==◌, eqb-true}
+use Rattle.std.proofs.Common.{All, AllPairs, Contains}
 use Rattle.std.proofs.lemmas.Bool.{eqb-false}
 use Rattle.std.proofs.lemmas.List.Elements.{All-nil, All-cons, All-head, All-tail, All-weaker}
 use Rattle.std.proofs.lemmas.List.Kept.{AllPairs-cons}
@@ -32,7 +33,8 @@ same_sums r us vs e h =
     subst P (sym e) h
 
 -- rows of later columns don't see a point more
-others : (p : Point) (xs : List Point) (rs : List Row) → All (λ r. p.x < r.column) rs → All (λ r. Sums r (values_in r.column xs)) rs → All (λ r. Sums r (values_in r.column (p ∷ xs))) rs
+others : (p : Point) (xs : List Point) (rs : List Row) → All (λ r. p.x < r.column) rs → All (λ r. Sums r (values_in r.column xs)) rs
+    → All (λ r. Sums r (values_in r.column (p ∷ xs))) rs
 others p xs [] later each = All-nil (λ r. Sums r (values_in r.column (p ∷ xs)))
 others p xs (r ∷ rs) later each =
     let beyond : p.x < r.column = All-head (λ s. p.x < s.column) r rs later in
@@ -44,18 +46,21 @@ others p xs (r ∷ rs) later each =
 -- the rows of one point
 one_row : (p : Point) → AreRows (p ∷ []) (row_of_one p ∷ [])
 one_row p = record {
-  rising = AllPairs-cons (λ r s. r.column < s.column) (row_of_one p) [] (All-nil (λ s. p.x < s.column)) (AllPairs-none (λ r s. r.column < s.column));
+  rising = AllPairs-cons (λ r s. r.column < s.column) (row_of_one p) [] (All-nil (λ s. p.x < s.column))
+      (AllPairs-none (λ r s. r.column < s.column));
   each = All-cons (λ r. Sums r (values_in r.column (p ∷ []))) (row_of_one p) []
       (same_sums (row_of_one p) _ _ (values_in-own p.x p [] refl) (Sums-one p)) (All-nil (λ r. Sums r (values_in r.column (p ∷ []))));
   every = All-cons (λ s. Contains (p.x ∷ []) s.x) p [] (Contains-here p.x []) (All-nil (λ s. Contains (p.x ∷ []) s.x));
 }
 
 -- a point more in the column of the first row
-same_row : (p : Point) (xs : List Point) (r : Row) (rs : List Row) → p.x ≡ r.column → AreRows xs (r ∷ rs) → AreRows (p ∷ xs) (row_from p r ∷ rs)
+same_row : (p : Point) (xs : List Point) (r : Row) (rs : List Row) → p.x ≡ r.column → AreRows xs (r ∷ rs)
+    → AreRows (p ∷ xs) (row_from p r ∷ rs)
 same_row p xs r rs e h =
     let later : All (λ s. r.column < s.column) rs = AllPairs-head (λ a b. a.column < b.column) r rs h.rising in
     record {
-      rising = AllPairs-cons (λ a b. a.column < b.column) (row_from p r) rs later (AllPairs-tail (λ a b. a.column < b.column) r rs h.rising);
+      rising = AllPairs-cons (λ a b. a.column < b.column) (row_from p r) rs later
+          (AllPairs-tail (λ a b. a.column < b.column) r rs h.rising);
       each = All-cons (λ s. Sums s (values_in s.column (p ∷ xs))) (row_from p r) rs
           (same_sums (row_from p r) _ _ (values_in-own r.column p xs e)
           (Sums-more p r (values_in r.column xs) (All-head (λ s. Sums s (values_in s.column xs)) r rs h.each)))
@@ -67,7 +72,8 @@ same_row p xs r rs e h =
     }
 
 -- a point before the column of the first row
-new_row : (p : Point) (xs : List Point) (r : Row) (rs : List Row) → p.x < r.column → All (λ s. p.x < s.x) xs → AreRows xs (r ∷ rs) → AreRows (p ∷ xs) (row_of_one p ∷ (r ∷ rs))
+new_row : (p : Point) (xs : List Point) (r : Row) (rs : List Row) → p.x < r.column → All (λ s. p.x < s.x) xs → AreRows xs (r ∷ rs)
+    → AreRows (p ∷ xs) (row_of_one p ∷ (r ∷ rs))
 new_row p xs r rs lt beyond h =
     let later : All (λ s. p.x < s.column) (r ∷ rs) =
     All-cons (λ s. p.x < s.column) r rs lt
@@ -83,7 +89,8 @@ new_row p xs r rs lt beyond h =
           (λ s own. Contains-later p.x s.x (columns_of (r ∷ rs)) own) xs h.every);
     }
 
-one_more : (p q : Point) (xs : List Point) (r : Row) (rs : List Row) → GoRight (p ∷ (q ∷ xs)) → Begins q r → AreRows (q ∷ xs) (r ∷ rs) → AreRows (p ∷ (q ∷ xs)) (put_first p (r ∷ rs))
+one_more : (p q : Point) (xs : List Point) (r : Row) (rs : List Row) → GoRight (p ∷ (q ∷ xs)) → Begins q r → AreRows (q ∷ xs) (r ∷ rs)
+    → AreRows (p ∷ (q ∷ xs)) (put_first p (r ∷ rs))
 one_more p q xs r rs right b h =
     elim (p.x == r.column) as (λ t. (p.x == r.column) ≡ t → AreRows (p ∷ (q ∷ xs)) (cond t (row_from p r ∷ rs) (row_of_one p ∷ (r ∷ rs)))) [
       | true ↦ λ e. same_row p (q ∷ xs) r rs (eqb-true p.x r.column e) h
@@ -104,7 +111,8 @@ one_more p q xs r rs right b h =
         All-cons (λ s. p.x < s.x) q xs (omega (arith, before_row e, b.column))
         (All-weaker (λ s. q.x ≤ s.x) (λ s. p.x < s.x) (λ s le. omega (arith, le, before_row e, b.column)) xs onwards)
 
-extended : (p q : Point) (xs : List Point) (rs : List Row) → GoRight (p ∷ (q ∷ xs)) → Starts q rs → AreRows (q ∷ xs) rs → AreRows (p ∷ (q ∷ xs)) (put_first p rs)
+extended : (p q : Point) (xs : List Point) (rs : List Row) → GoRight (p ∷ (q ∷ xs)) → Starts q rs → AreRows (q ∷ xs) rs
+    → AreRows (p ∷ (q ∷ xs)) (put_first p rs)
 extended p q xs rs right s ih =
     let P : List Row → Type 0 = λ l. AreRows (q ∷ xs) l → AreRows (p ∷ (q ∷ xs)) (put_first p l) in
     subst P (sym s.is) (one_more p q xs s.row s.rest right s.begins) ih

@@ -18,7 +18,8 @@ value_distance a b =
     (λ down. omega (arith, ints, before a b down, size_bounds a, size_bounds b))
 
 -- a height lies within what a segment can reach
-pub height-fits : (v lo r : ℤ) (h : ℕ) → IsValue v → IsValue lo → h ≤ 4096 → unsigned_abs r ≤ distance lo v * (h - 1) → unsigned_abs r ≤ 10 ^ 22
+pub height-fits : (v lo r : ℤ) (h : ℕ) → IsValue v → IsValue lo → h ≤ 4096 → unsigned_abs r ≤ distance lo v * (h - 1)
+    → unsigned_abs r ≤ 10 ^ 22
 height-fits v lo r h value low rows near =
     let apart : distance lo v ≤ 2 * 10 ^ 18 = omega (arith, value_distance lo v, value, low) in
     let steps : h - 1 ≤ 4095 = omega (arith, rows) in

@@ -1,5 +1,6 @@
 -- A list of points has one list of rows.
-use Rattle.std.proofs.Common.{ℕ, ℤ, zero, suc, ◌≡◌, ◌-◌, ◌<◌, ◌≤◌, ◌≤ℤ◌, arith, refl, ap, ap₂, sym, ◌∙◌, subst, List, [], ◌∷◌, length, slice_get, slice_index_or, Option, Some, All, Contains, ◌==◌, true, false, eqb-true}
+use Rattle.std.proofs.Common.{ℕ, ℤ, zero, suc, ◌≡◌, ◌-◌, ◌<◌, ◌≤◌, ◌≤ℤ◌, arith, refl, ap, ap₂, sym, ◌∙◌, subst, List, [], ◌∷◌, length}
+use Rattle.std.proofs.Common.{slice_get, slice_index_or, Option, Some, All, Contains, ◌==◌, true, false, eqb-true}
 use Rattle.std.proofs.lemmas.Int.{ints}
 use Rattle.std.proofs.lemmas.Bool.{eqb-false}
 use Rattle.std.proofs.lemmas.List.Elements.{All-cons, All-head, All-tail, All-weaker, All-contains, All-map}
@@ -75,7 +76,8 @@ rest_columns r s rs ss e rising has =
     both_all : (P Q R : Row → Type 0) (rs : List Row) → ((t : Row) → P t → Q t → R t) → All P rs → All Q rs → All R rs
     both_all P Q R rs f p q k d lt = f (slice_index_or rs k d) (p k d lt) (q k d lt)
 
-same_rows : (xs : List Point) (rs ss : List Row) → AreRising rs → AreRising ss → All (SumsIn xs) rs → All (SumsIn xs) ss → HaveColumnsOf rs ss → HaveColumnsOf ss rs → rs ≡ ss
+same_rows : (xs : List Point) (rs ss : List Row) → AreRising rs → AreRising ss → All (SumsIn xs) rs → All (SumsIn xs) ss
+    → HaveColumnsOf rs ss → HaveColumnsOf ss rs → rs ≡ ss
 same_rows xs [] [] up down g h into back = refl
 same_rows xs [] (s ∷ ss) up down g h into back =
     absurd (omega (arith, (All-head (λ r. Contains [] r.column) s ss back).1))
@@ -94,7 +96,8 @@ same_rows xs (r ∷ rs) (s ∷ ss) up down g h into back =
     ap₂ (λ a b. a ∷ b) head tail
 
 -- a column with a value has a point
-has_point : (c : ℕ) (v : ℤ) (xs : List Point) (cs : List ℕ) → slice_get (values_in c xs) 0 ≡ Some v → All (λ s. Contains cs s.x) xs → Contains cs c
+has_point : (c : ℕ) (v : ℤ) (xs : List Point) (cs : List ℕ) → slice_get (values_in c xs) 0 ≡ Some v → All (λ s. Contains cs s.x) xs
+    → Contains cs c
 has_point c v [] cs e every = absurd (cc)
 has_point c v (s ∷ xs) cs e every =
     elim (s.x == c) as (λ t. (s.x == c) ≡ t → Contains cs c) [

@@ -1,5 +1,6 @@
 -- The values of a column, and a row of them.
-use Rattle.std.proofs.Common.{ℕ, ℤ, suc, ◌≡◌, ◌≢◌, ◌-◌, ◌<◌, ◌≤ℤ◌, arith, refl, ap, sym, ◌∙◌, subst, List, [], ◌∷◌, Bool, true, false, cond, ◌==◌, eq-eqb, map, length, slice_get, Some, All, Contains}
+use Rattle.std.proofs.Common.{ℕ, ℤ, suc, ◌≡◌, ◌≢◌, ◌-◌, ◌<◌, ◌≤ℤ◌, arith, refl, ap, sym, ◌∙◌, subst, List, [], ◌∷◌, Bool, true, false, cond}
+use Rattle.std.proofs.Common.{◌==◌, eq-eqb, map, length, slice_get, Some, All, Contains}
 use Rattle.std.specs.Int.{int_min, int_max}
 use Rattle.std.proofs.lemmas.Int.{ints, clamps, by_lt_z}
 use Rattle.std.proofs.lemmas.List.Elements.{All-nil, All-cons, All-head, All-tail, All-weaker}
@@ -98,6 +99,9 @@ pub Sums-one : (p : Point) → Sums (row_of_one p) (p.y ∷ [])
 Sums-one p = record {
   first = refl;
   least = record { among = Contains-here p.y []; least = All-cons (λ u. p.y ≤ℤ u) p.y [] (omega (arith, ints)) (All-nil (λ u. p.y ≤ℤ u)) };
-  greatest = record { among = Contains-here p.y []; greatest = All-cons (λ u. u ≤ℤ p.y) p.y [] (omega (arith, ints)) (All-nil (λ u. u ≤ℤ p.y)) };
+  greatest = record {
+    among = Contains-here p.y [];
+    greatest = All-cons (λ u. u ≤ℤ p.y) p.y [] (omega (arith, ints)) (All-nil (λ u. u ≤ℤ p.y));
+  };
   last = refl;
 }

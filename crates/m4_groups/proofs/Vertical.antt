@@ -1,5 +1,6 @@
 -- Segments between two points of one column, and the column of a row with one more point.
-use Rattle.std.proofs.Common.{ℕ, ℤ, pos, unsigned_abs, ◌≡◌, ◌+◌, ◌*◌, ◌/◌, ◌<◌, ◌≤◌, ◌+ℤ◌, ◌-ℤ◌, ◌≤ℤ◌, ◌<ℤ◌, ◌⊎◌, inl, inr, arith, ap, sym, ◌∙◌, int_lt, Bool, true, false, cond}
+use Rattle.std.proofs.Common.{ℕ, ℤ, pos, unsigned_abs, ◌≡◌, ◌+◌, ◌*◌, ◌/◌, ◌<◌, ◌≤◌, ◌+ℤ◌, ◌-ℤ◌, ◌≤ℤ◌, ◌<ℤ◌, ◌⊎◌, inl, inr, arith, ap, sym}
+use Rattle.std.proofs.Common.{◌∙◌, int_lt, Bool, true, false, cond}
 use Rattle.std.specs.Int.{int_min, int_max}
 use Rattle.std.proofs.lemmas.Int.{ints, clamps, by_lt_z}
 use Rattle.std.proofs.lemmas.Bool.{cases_lt}
@@ -97,7 +98,13 @@ steep_on p q x y n e here some reached row =
     let flat : columns p q ≡ 0 = omega arith in
     let none : share (rows p q) (columns p q) n ≡ 0 =
     ap (λ d. share (rows p q) d n) flat ∙ no_share (rows p q) n some in
-    inr (inr (record { high = omega arith; n = n; reached = reached; row = row; column = here ∙ sym (ap (λ d. p.x + d) none ∙ omega arith) }))
+    inr (inr (record {
+      high = omega arith;
+      n = n;
+      reached = reached;
+      row = row;
+      column = here ∙ sym (ap (λ d. p.x + d) none ∙ omega arith);
+    }))
 
 pub vertical_on : (p q : Point) (x : ℕ) (y : ℤ) → p.x ≡ q.x → x ≡ p.x → IsBetweenHeights p.y q.y y → On p q x y
 vertical_on p q x y e here h =
@@ -122,7 +129,8 @@ pub record Begins (q : Point) (r : Row) : Type 0 where
   pub high : q.y ≤ℤ r.greatest
 
 -- a point before a row of its column adds the pixels up or down to the row
-pub filled_from : (p q : Point) (r : Row) (x : ℕ) (y : ℤ) → p.x ≡ r.column → Begins q r → InFill r.column (int_min p.y r.least) (int_max p.y r.greatest) x y → On p q x y ⊎ InFill r.column r.least r.greatest x y
+pub filled_from : (p q : Point) (r : Row) (x : ℕ) (y : ℤ) → p.x ≡ r.column → Begins q r
+    → InFill r.column (int_min p.y r.least) (int_max p.y r.greatest) x y → On p q x y ⊎ InFill r.column r.least r.greatest x y
 filled_from p q r x y e b h =
     by_lt_z y r.least
     (λ under. inl (vertical_on p q x y (omega (arith, b.column)) (omega (arith, h.here)) (record {
@@ -136,7 +144,8 @@ filled_from p q r x y e b h =
     })))
     (λ below. inr (record { here = h.here; above = above; below = below })))
 
-pub fills_on : (p q : Point) (r : Row) (x : ℕ) (y : ℤ) → p.x ≡ r.column → Begins q r → On p q x y → InFill r.column (int_min p.y r.least) (int_max p.y r.greatest) x y
+pub fills_on : (p q : Point) (r : Row) (x : ℕ) (y : ℤ) → p.x ≡ r.column → Begins q r → On p q x y
+    → InFill r.column (int_min p.y r.least) (int_max p.y r.greatest) x y
 fills_on p q r x y e b h =
     let v : (x ≡ p.x) × IsBetweenHeights p.y q.y y = vertical p q x y (omega (arith, b.column)) h in
     record {
@@ -145,14 +154,16 @@ fills_on p q r x y e b h =
       below = omega (arith, ints, clamps, v.1.below, b.high);
     }
 
-pub fills_more : (p : Point) (r : Row) (x : ℕ) (y : ℤ) → InFill r.column r.least r.greatest x y → InFill r.column (int_min p.y r.least) (int_max p.y r.greatest) x y
+pub fills_more : (p : Point) (r : Row) (x : ℕ) (y : ℤ) → InFill r.column r.least r.greatest x y
+    → InFill r.column (int_min p.y r.least) (int_max p.y r.greatest) x y
 fills_more p r x y h = record {
   here = h.here;
   above = omega (arith, ints, clamps, h.above);
   below = omega (arith, ints, clamps, h.below);
 }
 
-pub fills_at : (p q : Point) (r : Row) (x : ℕ) (y : ℤ) → p.x ≡ r.column → Begins q r → IsAt p x y → InFill r.column (int_min p.y r.least) (int_max p.y r.greatest) x y
+pub fills_at : (p q : Point) (r : Row) (x : ℕ) (y : ℤ) → p.x ≡ r.column → Begins q r → IsAt p x y
+    → InFill r.column (int_min p.y r.least) (int_max p.y r.greatest) x y
 fills_at p q r x y e b h = record {
   here = omega (arith, h.column);
   above = omega (arith, ints, clamps, h.row);

@@ -1,5 +1,6 @@
 -- Rows whose heights are those of some points draw the raster of these points.
-use Rattle.std.proofs.Common.{ℕ, ℤ, suc, pos, ◌≡◌, ◌⊎◌, ◌↔◌, ◌≤◌, inl, inr, refl, ap, sym, arith, length, ◌∙◌, subst, List, [], ◌∷◌, map, take, slice_get, option_map, Some}
+use Rattle.std.proofs.Common.{ℕ, ℤ, suc, pos, ◌≡◌, ◌⊎◌, ◌↔◌, ◌≤◌, inl, inr, refl, ap, sym, arith, length, ◌∙◌, subst, List, [], ◌∷◌, map}
+use Rattle.std.proofs.Common.{take, slice_get, option_map, Some}
 use Rattle.std.proofs.lemmas.Option.{slice_get-map}
 use Rattle.std.proofs.lemmas.List.{take_all, length-map}
 use Rattle.chart_grid.specs.declared.grid.Grid.{Grid}
@@ -21,12 +22,14 @@ use Rattle.m4_groups.proofs.Along.{raster_along}
 use Rattle.m4_groups.proofs.Gathering.{rows-folded}
 use Rattle.m4_groups.proofs.Painted.{both, alike, first_drawn, next_drawn}
 
-spot_pixels : (g : Grid) (lo hi : ℤ) (points : List (ℤ × ℤ)) → map (point_with (λ v. height v lo hi g.h)) (spots g points) ≡ pixels g lo hi points
+spot_pixels : (g : Grid) (lo hi : ℤ) (points : List (ℤ × ℤ))
+    → map (point_with (λ v. height v lo hi g.h)) (spots g points) ≡ pixels g lo hi points
 spot_pixels g lo hi [] = refl
 spot_pixels g lo hi (p ∷ ps) = ap (λ l. record { x = column g p.0; y = height p.1 lo hi g.h } ∷ l) (spot_pixels g lo hi ps)
 
 -- the heights of the rows of points are the rows of their pixels
-pub heights_folded : (g : Grid) (lo hi : ℤ) (points : List (ℤ × ℤ)) (of : List Row) → AreInOrder g points → AreRowsOf g points of → row_heights lo hi g.h of ≡ rows_from (pixels g lo hi points)
+pub heights_folded : (g : Grid) (lo hi : ℤ) (points : List (ℤ × ℤ)) (of : List Row) → AreInOrder g points → AreRowsOf g points of
+    → row_heights lo hi g.h of ≡ rows_from (pixels g lo hi points)
 heights_folded g lo hi points of order own =
     ap (row_heights lo hi g.h) (rows-folded g points of order own)
     ∙ rows_kept (λ v. height v lo hi g.h) (λ a b le. height-rising a b lo hi g.h le) (spots g points)
@@ -40,7 +43,9 @@ drawn_raster ps hs e x y =
     subst P (sym e) (λ h. r.1 (d.1 h), λ h. d.0 (r.0 h))
 
 -- what the rows add is the raster of the points
-pub raster_of_rows : (g : Grid) (lo hi : ℤ) (points : List (ℤ × ℤ)) (rows of : List Row) (h : ℕ) (old new : Canvas) → g.h ≡ h → AreInOrder g points → AreRowsOf g points of → HaveSameHeights lo hi h rows of → Adds (λ x y. Drawn (row_heights lo hi h rows) x (pos y)) old new → Adds (λ x y. InRaster (pixels g lo hi points) x (pos y)) old new
+pub raster_of_rows : (g : Grid) (lo hi : ℤ) (points : List (ℤ × ℤ)) (rows of : List Row) (h : ℕ) (old new : Canvas) → g.h ≡ h
+    → AreInOrder g points → AreRowsOf g points of → HaveSameHeights lo hi h rows of
+    → Adds (λ x y. Drawn (row_heights lo hi h rows) x (pos y)) old new → Adds (λ x y. InRaster (pixels g lo hi points) x (pos y)) old new
 raster_of_rows g lo hi points rows of h old new e order own same drawn =
     let P : ℕ → Type 0 = λ k. HaveSameHeights lo hi k rows of in
     let Q : ℕ → Type 0 = λ k. Adds (λ x y. Drawn (row_heights lo hi k rows) x (pos y)) old new in
@@ -57,7 +62,11 @@ regroup A B C D e = (
 )
 
 -- one row more is drawn: the join to it, and its column
-pub next_painted : (lo hi : ℤ) (h : ℕ) (rows : List Row) (j i n : ℕ) (q r : Row) (old now mid new : Canvas) → i ≡ suc j → n ≡ suc i → slice_get rows j ≡ Some q → slice_get rows i ≡ Some r → Adds (λ x y. Drawn (take i (row_heights lo hi h rows)) x (pos y)) old now → Adds (λ x y. On (last_of (row_height lo hi h q)) (first_of (row_height lo hi h r)) x (pos y)) now mid → (let s : Row = row_height lo hi h r in Adds (λ x y. InFill s.column s.least s.greatest x (pos y)) mid new) → Adds (λ x y. Drawn (take n (row_heights lo hi h rows)) x (pos y)) old new
+pub next_painted : (lo hi : ℤ) (h : ℕ) (rows : List Row) (j i n : ℕ) (q r : Row) (old now mid new : Canvas) → i ≡ suc j → n ≡ suc i
+    → slice_get rows j ≡ Some q → slice_get rows i ≡ Some r → Adds (λ x y. Drawn (take i (row_heights lo hi h rows)) x (pos y)) old now
+    → Adds (λ x y. On (last_of (row_height lo hi h q)) (first_of (row_height lo hi h r)) x (pos y)) now mid
+    → (let s : Row = row_height lo hi h r in Adds (λ x y. InFill s.column s.least s.greatest x (pos y)) mid new)
+    → Adds (λ x y. Drawn (take n (row_heights lo hi h rows)) x (pos y)) old new
 next_painted lo hi h rows j i n q r old now mid new ei en eq er drawn joined filled =
     let hs : List Row = row_heights lo hi h rows in
     let s : Row = row_height lo hi h q in
@@ -79,13 +88,18 @@ next_painted lo hi h rows j i n q r old now mid new ei en eq er drawn joined fil
     all)
 
 -- the first row is drawn: its column
-pub first_painted : (lo hi : ℤ) (h : ℕ) (rows : List Row) (r : Row) (old new : Canvas) → slice_get rows 0 ≡ Some r → (let s : Row = row_height lo hi h r in Adds (λ x y. InFill s.column s.least s.greatest x (pos y)) old new) → Adds (λ x y. Drawn (take 1 (row_heights lo hi h rows)) x (pos y)) old new
+pub first_painted : (lo hi : ℤ) (h : ℕ) (rows : List Row) (r : Row) (old new : Canvas) → slice_get rows 0 ≡ Some r
+    → (let s : Row = row_height lo hi h r in Adds (λ x y. InFill s.column s.least s.greatest x (pos y)) old new)
+    → Adds (λ x y. Drawn (take 1 (row_heights lo hi h rows)) x (pos y)) old new
 first_painted lo hi h rows r old new er filled =
-    let first : slice_get (row_heights lo hi h rows) 0 ≡ Some (row_height lo hi h r) = slice_get-map (row_height lo hi h) rows 0 ∙ ap (option_map (row_height lo hi h)) er in
+    let first : slice_get (row_heights lo hi h rows) 0 ≡ Some (row_height lo hi h r) = slice_get-map (row_height lo hi h) rows 0
+    ∙ ap (option_map (row_height lo hi h)) er in
     alike _ _ old new (λ x y. first_drawn (row_heights lo hi h rows) (row_height lo hi h r) x (pos y) first) filled
 
 -- all rows are drawn
-pub all_painted : (lo hi : ℤ) (h : ℕ) (rows : List Row) (n : ℕ) (old new : Canvas) → length rows ≤ n → Adds (λ x y. Drawn (take n (row_heights lo hi h rows)) x (pos y)) old new → Adds (λ x y. Drawn (row_heights lo hi h rows) x (pos y)) old new
+pub all_painted : (lo hi : ℤ) (h : ℕ) (rows : List Row) (n : ℕ) (old new : Canvas) → length rows ≤ n
+    → Adds (λ x y. Drawn (take n (row_heights lo hi h rows)) x (pos y)) old new
+    → Adds (λ x y. Drawn (row_heights lo hi h rows) x (pos y)) old new
 all_painted lo hi h rows n old new all drawn =
     let P : List Row → Type 0 = λ l. Adds (λ x y. Drawn l x (pos y)) old new in
     subst P (take_all n (row_heights lo hi h rows) (omega (arith, all, length-map rows (row_height lo hi h)))) drawn

@@ -1,4 +1,5 @@
-use Rattle.std.proofs.Common.{ℕ, suc, ℤ, ◌≡◌, ◌≢◌, ◌<◌, ◌≤◌, ◌≤ℤ◌, ◌<ℤ◌, inl, inr, List, length, set, refl, sym, ap, subst, arith, le_refl, get_or-set_same, get_or-set_other}
+use Rattle.std.proofs.Common.{ℕ, suc, ℤ, ◌≡◌, ◌≢◌, ◌<◌, ◌≤◌, ◌≤ℤ◌, ◌<ℤ◌, inl, inr, List, length, set, refl, sym, ap, subst, arith, le_refl}
+use Rattle.std.proofs.Common.{get_or-set_same, get_or-set_other}
 use Rattle.std.proofs.lemmas.Int.{ints, clamps, by_lt_z}
 use Rattle.std.proofs.lemmas.Bool.{cases_eq}
 use Rattle.std.specs.Prelude.{Option, Some, None}
@@ -15,7 +16,8 @@ use Rattle.needed_nodes.specs.declared.blocks.Block.{Block}
 use Rattle.needed_nodes.specs.declared.blocks.Blocks.{Blocks}
 use Rattle.needed_nodes.specs.Ranks.{rank, IsInside}
 use Rattle.needed_nodes.specs.Serving.{shown_by, IsClearBy}
-use Rattle.needed_nodes.specs.Blocks.{IsBlock, AreBlocks, AreEnds, IsSpanBelow, AreBlocksIfAny, AreEndsIfAny, IsSpanBelowIfAny, entry, HoldBlocks, HoldEnds, HoldSpans}
+use Rattle.needed_nodes.specs.Blocks.{IsBlock, AreBlocks, AreEnds, IsSpanBelow, AreBlocksIfAny, AreEndsIfAny, IsSpanBelowIfAny, entry}
+use Rattle.needed_nodes.specs.Blocks.{HoldBlocks, HoldEnds, HoldSpans}
 use Rattle.needed_nodes.specs.Entering.{both_spans, with_block}
 use Rattle.needed_nodes.proofs.Nesting.{some_slot}
 use Rattle.needed_nodes.proofs.RankLaws.{inside_rank}
@@ -141,7 +143,8 @@ ends_enter S w c (Some bs) b seen h = record {
   behind = λ i is past to. absurd (omega arith);
 }
 
-pub hold_ends_enter : (S : Seen) (w : Window) (c : ℕ) (table : List (Option Blocks)) (b : Block) → length table ≡ w.grid.w → IsInside w c b.key
+pub hold_ends_enter : (S : Seen) (w : Window) (c : ℕ) (table : List (Option Blocks)) (b : Block) → length table ≡ w.grid.w
+    → IsInside w c b.key
     → shown_by S w b.key ≡ Some (Some b.span)
     → HoldEnds S w (first_slot b.key) table → HoldEnds S w (end_slot b.key) (set table c (Some (with_block (entry table c) b)))
 hold_ends_enter S w c table b sized own seen h =
@@ -152,7 +155,8 @@ hold_ends_enter S w c table b sized own seen h =
     (λ i is from to. absurd (other (omega (arith, is, inside_rank w c b.key i own from to)))) (h d below))
 
 -- between two slots no slot of a column holds a value
-span_on : (list : List (Option ℤ)) (w : Window) (x y c : ℕ) (bs : Option Blocks) → x ≤ y → ((i : ℕ) (v : ℤ) → rank w i ≡ suc c → x ≤ i → i < y → Holds list i v → ⊥)
+span_on : (list : List (Option ℤ)) (w : Window) (x y c : ℕ) (bs : Option Blocks) → x ≤ y
+    → ((i : ℕ) (v : ℤ) → rank w i ≡ suc c → x ≤ i → i < y → Holds list i v → ⊥)
     → IsSpanBelowIfAny list w x c bs → IsSpanBelowIfAny list w y c bs
 span_on list w x y c None le none h = λ i v is to holds. by_lt i x (λ less. h i v is less holds) (λ from. none i v is from to holds)
 span_on list w x y c (Some bs) le none h = record {
@@ -169,12 +173,14 @@ span_on list w x y c (Some bs) le none h = record {
 }
 
 pub hold_spans_on : (list : List (Option ℤ)) (w : Window) (x y : ℕ) (table : List (Option Blocks)) → x ≤ y
-    → ((c i : ℕ) (v : ℤ) → c < w.grid.w → rank w i ≡ suc c → x ≤ i → i < y → Holds list i v → ⊥) → HoldSpans list w x table → HoldSpans list w y table
+    → ((c i : ℕ) (v : ℤ) → c < w.grid.w → rank w i ≡ suc c → x ≤ i → i < y → Holds list i v → ⊥) → HoldSpans list w x table
+    → HoldSpans list w y table
 hold_spans_on list w x y table le none h c below =
     span_on list w x y c (entry table c) le (λ i v is from to holds. none c i v below is from to holds) (h c below)
 
 -- the slots of a block's range are of its column
-inside_span : (list : List (Option ℤ)) (w : Window) (c : ℕ) (b : Block) → IsInside w c b.key → AreExtremes list (first_slot b.key) (end_slot b.key) b.span
+inside_span : (list : List (Option ℤ)) (w : Window) (c : ℕ) (b : Block) → IsInside w c b.key
+    → AreExtremes list (first_slot b.key) (end_slot b.key) b.span
     → ((i : ℕ) (v : ℤ) → rank w i ≡ suc c → i < first_slot b.key → Holds list i v → ⊥) → IsSpanBelow list w (end_slot b.key) c b.span
 inside_span list w c b own h none = record {
   least_at = h.least.slot;
@@ -199,17 +205,20 @@ record HeldAt (list : List (Option ℤ)) (w : Window) (x c : ℕ) (v : ℤ) : Ty
 held_as : (list : List (Option ℤ)) (w : Window) (x c : ℕ) (u v : ℤ) → u ≡ v → HeldAt list w x c u → HeldAt list w x c v
 held_as list w x c u v e h = let P : ℤ → Type 0 = λ z. HeldAt list w x c z in subst P e h
 
-lesser : (list : List (Option ℤ)) (w : Window) (x c : ℕ) (a b : ℤ) → HeldAt list w x c a → HeldAt list w x c b → HeldAt list w x c (int_min a b)
+lesser : (list : List (Option ℤ)) (w : Window) (x c : ℕ) (a b : ℤ) → HeldAt list w x c a → HeldAt list w x c b
+    → HeldAt list w x c (int_min a b)
 lesser list w x c a b h g =
     by_lt_z a b (λ less. held_as list w x c a (int_min a b) (omega (arith, ints, clamps)) h)
     (λ more. held_as list w x c b (int_min a b) (omega (arith, ints, clamps)) g)
 
-greater : (list : List (Option ℤ)) (w : Window) (x c : ℕ) (a b : ℤ) → HeldAt list w x c a → HeldAt list w x c b → HeldAt list w x c (int_max a b)
+greater : (list : List (Option ℤ)) (w : Window) (x c : ℕ) (a b : ℤ) → HeldAt list w x c a → HeldAt list w x c b
+    → HeldAt list w x c (int_max a b)
 greater list w x c a b h g =
     by_lt_z a b (λ less. held_as list w x c b (int_max a b) (omega (arith, ints, clamps)) g)
     (λ more. held_as list w x c a (int_max a b) (omega (arith, ints, clamps)) h)
 
-span_with : (list : List (Option ℤ)) (w : Window) (c : ℕ) (s : Span) (b : Block) → IsInside w c b.key → AreExtremes list (first_slot b.key) (end_slot b.key) b.span
+span_with : (list : List (Option ℤ)) (w : Window) (c : ℕ) (s : Span) (b : Block) → IsInside w c b.key
+    → AreExtremes list (first_slot b.key) (end_slot b.key) b.span
     → IsSpanBelow list w (first_slot b.key) c s → IsSpanBelow list w (end_slot b.key) c (both_spans s b.span)
 span_with list w c s b own h g =
     let k : Key = b.key in
@@ -217,11 +226,21 @@ span_with list w c s b own h g =
     let low : HeldAt list w (end_slot k) c (int_min s.min b.span.min) =
     lesser list w (end_slot k) c s.min b.span.min
     (record { slot = g.least_at; in_column = g.least_in; below = omega (arith, g.least_below); holds = g.least })
-    (record { slot = h.least.slot; in_column = inside_rank w c k h.least.slot own h.least.low h.least.high; below = h.least.high; holds = h.least.holds }) in
+    (record {
+      slot = h.least.slot;
+      in_column = inside_rank w c k h.least.slot own h.least.low h.least.high;
+      below = h.least.high;
+      holds = h.least.holds;
+    }) in
     let high : HeldAt list w (end_slot k) c (int_max s.max b.span.max) =
     greater list w (end_slot k) c s.max b.span.max
     (record { slot = g.greatest_at; in_column = g.greatest_in; below = omega (arith, g.greatest_below); holds = g.greatest })
-    (record { slot = h.greatest.slot; in_column = inside_rank w c k h.greatest.slot own h.greatest.low h.greatest.high; below = h.greatest.high; holds = h.greatest.holds }) in
+    (record {
+      slot = h.greatest.slot;
+      in_column = inside_rank w c k h.greatest.slot own h.greatest.low h.greatest.high;
+      below = h.greatest.high;
+      holds = h.greatest.holds;
+    }) in
     record {
       least_at = low.slot;
       least_in = low.in_column;
@@ -239,12 +258,14 @@ span_with list w c s b own h g =
           (λ from. omega (arith, ints, clamps, h.below i v from to holds));
     }
 
-span_enter : (list : List (Option ℤ)) (w : Window) (c : ℕ) (bs : Option Blocks) (b : Block) → IsInside w c b.key → AreExtremes list (first_slot b.key) (end_slot b.key) b.span
+span_enter : (list : List (Option ℤ)) (w : Window) (c : ℕ) (bs : Option Blocks) (b : Block) → IsInside w c b.key
+    → AreExtremes list (first_slot b.key) (end_slot b.key) b.span
     → IsSpanBelowIfAny list w (first_slot b.key) c bs → IsSpanBelow list w (end_slot b.key) c (with_block bs b).span
 span_enter list w c None b own h g = inside_span list w c b own h g
 span_enter list w c (Some bs) b own h g = span_with list w c bs.span b own h g
 
-pub hold_spans_enter : (list : List (Option ℤ)) (w : Window) (c : ℕ) (table : List (Option Blocks)) (b : Block) → length table ≡ w.grid.w → IsInside w c b.key
+pub hold_spans_enter : (list : List (Option ℤ)) (w : Window) (c : ℕ) (table : List (Option Blocks)) (b : Block) → length table ≡ w.grid.w
+    → IsInside w c b.key
     → AreExtremes list (first_slot b.key) (end_slot b.key) b.span
     → HoldSpans list w (first_slot b.key) table → HoldSpans list w (end_slot b.key) (set table c (Some (with_block (entry table c) b)))
 hold_spans_enter list w c table b sized own h g =

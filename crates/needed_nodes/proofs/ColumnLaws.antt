@@ -1,4 +1,5 @@
-use Rattle.std.proofs.Common.{ℕ, suc, ℤ, ◌≡◌, ◌+◌, ◌-◌, ◌*◌, ◌^◌, ◌<◌, ◌≤◌, ◌≤ℤ◌, inl, inr, true, false, List, [], ◌∷◌, ◌++◌, refl, sym, ◌∙◌, ap, subst, arith, le_refl}
+use Rattle.std.proofs.Common.{ℕ, suc, ℤ, ◌≡◌, ◌+◌, ◌-◌, ◌*◌, ◌^◌, ◌<◌, ◌≤◌, ◌≤ℤ◌, inl, inr, true, false, List, [], ◌∷◌, ◌++◌, refl, sym}
+use Rattle.std.proofs.Common.{◌∙◌, ap, subst, arith, le_refl}
 use Rattle.std.proofs.Math.Nat.{mul-le-mul_right}
 use Rattle.std.proofs.lemmas.Int.{ints}
 use Rattle.std.proofs.lemmas.Option.{same_Some}
@@ -28,9 +29,11 @@ use Rattle.needed_nodes.specs.Answers.{IsShownRow}
 use Rattle.needed_nodes.specs.Ranks.{rank, IsInside, IsBelow}
 use Rattle.needed_nodes.specs.Serving.{Serves, ServesList, list_seen, shown_by, IsClearBy, IsReady}
 use Rattle.needed_nodes.specs.Gathering.{IsSeenBy, Gathered}
-use Rattle.needed_nodes.specs.Blocks.{IsPartOf, IsBlock, AreBlocks, AreEnds, AreBlocksIfAny, AreEndsIfAny, IsSpanBelowIfAny, entry, HoldBlocks, HoldEnds, HoldSpans}
+use Rattle.needed_nodes.specs.Blocks.{IsPartOf, IsBlock, AreBlocks, AreEnds, AreBlocksIfAny, AreEndsIfAny, IsSpanBelowIfAny, entry}
+use Rattle.needed_nodes.specs.Blocks.{HoldBlocks, HoldEnds, HoldSpans}
 use Rattle.needed_nodes.specs.Ends.{MayHold, HoldsSought, most_ends, IsAmong, AreAmong, IsFirstIn, IsLastIn, Follows}
-use Rattle.needed_nodes.specs.Columns.{MayHoldEnd, IsEndKey, IsInColumns, IsFirstOf, IsLastOf, HasEnds, row_by, IsRowOf, HasColumn, HasColumns}
+use Rattle.needed_nodes.specs.Columns.{MayHoldEnd, IsEndKey, IsInColumns, IsFirstOf, IsLastOf, HasEnds, row_by, IsRowOf, HasColumn}
+use Rattle.needed_nodes.specs.Columns.{HasColumns}
 use Rattle.needed_nodes.proofs.Nesting.{some_slot, slot_key}
 use Rattle.needed_nodes.proofs.RankLaws.{column_rank, rank_column, shown_slot, inside_rank, inside_below, block_holds}
 use Rattle.needed_nodes.proofs.ServeLaws.{HasSlot, unclear_slot, serves_list_later, list_shown}
@@ -45,7 +48,8 @@ in_column_end : (w : Window) (c i : ℕ) → IsInColumn w.axis w.grid c i → i 
 in_column_end w c i own = (shown_slot w i own.slot own.shown).1
 
 -- a slot that a list's tree shows to be clear holds nothing
-pub list_clear_slot : (v : NodesView) (w : Window) (list : List (Option ℤ)) (i : ℕ) (x : ℤ) → ServesList v w list → i < w.end → IsClearBy (list_seen list) w i → Holds list i x → ⊥
+pub list_clear_slot : (v : NodesView) (w : Window) (list : List (Option ℤ)) (i : ℕ) (x : ℤ) → ServesList v w list → i < w.end
+    → IsClearBy (list_seen list) w i → Holds list i x → ⊥
 list_clear_slot v w list i x served below clear holds =
     let few : w.axis.slots ≤ 2 ^ 35 = omega (arith, served.few, served.slots) in
     let none_off : height w.axis.slots - 0 ≡ height w.axis.slots = omega arith in
@@ -53,7 +57,8 @@ list_clear_slot v w list i x served below clear holds =
       high = omega arith;
       within = omega (arith, below, w.stop.within, height_covers w.axis.slots few, ap (λ n. 2 ^ n) none_off);
     } in
-    let shown : shown_by (list_seen list) w (slot_key i) ≡ Some (span list (slot_key i)) = list_shown list w (slot_key i) served.values served.slots key in
+    let shown : shown_by (list_seen list) w (slot_key i) ≡ Some (span list (slot_key i)) = list_shown list w
+    (slot_key i) served.values served.slots key in
     let none : span list (slot_key i) ≡ None = same_Some (span list (slot_key i)) None (sym shown ∙ clear) in
     none-clear list (first_slot (slot_key i)) (end_slot (slot_key i)) none i x (omega arith) (omega arith) holds
 
@@ -94,23 +99,27 @@ abbrev pub sought_last : Sought
 sought_last = record { first = false; last = true }
 
 -- the blocks of a column with one block
-pub one_block : (w : Window) (x c : ℕ) (bs : Blocks) → AreBlocks w x c bs → first_slot bs.last.key ≤ first_slot bs.first.key → bs.first ≡ bs.last
+pub one_block : (w : Window) (x c : ℕ) (bs : Blocks) → AreBlocks w x c bs → first_slot bs.last.key ≤ first_slot bs.first.key
+    → bs.first ≡ bs.last
 one_block w x c bs blocks le = elim blocks.order [
   | inl same ↦ same
   | inr before ↦ absurd (omega (arith, before, le, some_slot bs.first.key))
 ]
 
-pub two_blocks : (w : Window) (x c : ℕ) (bs : Blocks) → AreBlocks w x c bs → first_slot bs.first.key < first_slot bs.last.key → end_slot bs.first.key ≤ first_slot bs.last.key
+pub two_blocks : (w : Window) (x c : ℕ) (bs : Blocks) → AreBlocks w x c bs → first_slot bs.first.key < first_slot bs.last.key
+    → end_slot bs.first.key ≤ first_slot bs.last.key
 two_blocks w x c bs blocks less = elim blocks.order [
   | inl same ↦ absurd (omega (arith, less, ap (λ b. first_slot b.key) same))
   | inr before ↦ before
 ]
 
-pub hold_both : (v : NodesView) (w : Window) (c : ℕ) (bs : Blocks) → bs.first ≡ bs.last → ((S : Seen) → Serves v w S → AreEnds S w w.end c bs)
+pub hold_both : (v : NodesView) (w : Window) (c : ℕ) (bs : Blocks) → bs.first ≡ bs.last
+    → ((S : Seen) → Serves v w S → AreEnds S w w.end c bs)
     → (S : Seen) → Serves v w S → MayHold S w c sought_both bs.first.key
 hold_both v w c bs same ends S served = record {
   first = λ on. clear_first S w c bs (ends S served);
-  last = λ on. (let P : Block → Type 0 = λ b. IsClearBehind S w.axis w.grid c b.key in subst P (sym same) (clear_last S w c bs (ends S served)));
+  last = λ on. (let P : Block → Type 0 = λ b. IsClearBehind S w.axis w.grid c b.key in
+      subst P (sym same) (clear_last S w c bs (ends S served)));
 }
 
 pub hold_first : (v : NodesView) (w : Window) (c : ℕ) (bs : Blocks) → ((S : Seen) → Serves v w S → AreEnds S w w.end c bs)
@@ -136,7 +145,8 @@ below_block w x c b k i j block key own p q r s =
     let m : (m : ℕ) × (first_slot b.key ≤ m) × (m < end_slot b.key) × (first_slot k ≤ m) × (m < end_slot k) = meets b.key k i j p q r s in
     block_holds w c b.key k m.0 block.top key own m.1 m.2 m.3 m.4
 
-below_first : (S : Seen) (w : Window) (x c : ℕ) (bs : Blocks) (k : Key) → AreBlocks w x c bs → AreEnds S w w.end c bs → IsKey (height w.axis.slots) k → IsInside w c k
+below_first : (S : Seen) (w : Window) (x c : ℕ) (bs : Blocks) (k : Key) → AreBlocks w x c bs → AreEnds S w w.end c bs
+    → IsKey (height w.axis.slots) k → IsInside w c k
     → IsSeenBy S w k → IsClearBefore S w.axis w.grid c k → IsBelow bs.first.key k
 below_first S w x c bs k blocks ends key own seen clear =
     let h : HasSlot S w k = unclear_slot S w k seen.0 key seen.1 in
@@ -152,7 +162,8 @@ below_first S w x c bs k blocks ends key own seen clear =
     (λ le. le) in
     below_block w x c bs.first k h.slot g.slot blocks.first key own from h.to to g.to
 
-below_last : (S : Seen) (w : Window) (x c : ℕ) (bs : Blocks) (k : Key) → AreBlocks w x c bs → AreEnds S w w.end c bs → IsKey (height w.axis.slots) k → IsInside w c k
+below_last : (S : Seen) (w : Window) (x c : ℕ) (bs : Blocks) (k : Key) → AreBlocks w x c bs → AreEnds S w w.end c bs
+    → IsKey (height w.axis.slots) k → IsInside w c k
     → IsSeenBy S w k → IsClearBehind S w.axis w.grid c k → IsBelow bs.last.key k
 below_last S w x c bs k blocks ends key own seen clear =
     let h : HasSlot S w k = unclear_slot S w k seen.0 key seen.1 in
@@ -173,7 +184,8 @@ node_key : (w : Window) (k : Key) → IsNode (height w.axis.slots) k → IsKey (
 node_key w k node = record { high = node.high; within = node.within }
 
 -- the keys of both ends, found from one block
-pub ends_of_one : (v : NodesView) (w : Window) (x c : ℕ) (bs : Blocks) (old new : List (Key × Coef)) → AreBlocks w x c bs → bs.first ≡ bs.last
+pub ends_of_one : (v : NodesView) (w : Window) (x c : ℕ) (bs : Blocks) (old new : List (Key × Coef)) → AreBlocks w x c bs
+    → bs.first ≡ bs.last
     → ((S : Seen) → Serves v w S → AreEnds S w w.end c bs)
     → Gathered v w (IsBelow bs.first.key) (HoldsSought w c sought_both) (most_ends (Some bs.first.span) sought_both bs.first.key) old new
     → Gathered v w (IsInside w c) (MayHoldEnd w c) (2 * height w.axis.slots) old new
@@ -193,13 +205,15 @@ ends_of_one v w x c bs old new blocks same ends g =
     (omega (arith, blocks.first.key.high)) g
 
 -- the keys of both ends, found from two blocks
-pub ends_of_two : (v u : NodesView) (w : Window) (x c : ℕ) (bs : Blocks) (old mid new : List (Key × Coef)) → AreBlocks w x c bs → end_slot bs.first.key ≤ first_slot bs.last.key
+pub ends_of_two : (v u : NodesView) (w : Window) (x c : ℕ) (bs : Blocks) (old mid new : List (Key × Coef)) → AreBlocks w x c bs
+    → end_slot bs.first.key ≤ first_slot bs.last.key
     → ((S : Seen) → Serves v w S → AreEnds S w w.end c bs) → StaysSame v u
     → Gathered v w (IsBelow bs.first.key) (HoldsSought w c sought_first) (most_ends (Some bs.first.span) sought_first bs.first.key) old mid
     → Gathered u w (IsBelow bs.last.key) (HoldsSought w c sought_last) (most_ends (Some bs.last.span) sought_last bs.last.key) mid new
     → Gathered v w (IsInside w c) (MayHoldEnd w c) (2 * height w.axis.slots) old new
 ends_of_two v u w x c bs old mid new blocks apart ends same g h =
-    let joins : Joins v w (IsBelow bs.first.key) (IsBelow bs.last.key) (IsInside w c) (HoldsSought w c sought_first) (HoldsSought w c sought_last) (MayHoldEnd w c) = record {
+    let joins : Joins v w (IsBelow bs.first.key) (IsBelow bs.last.key) (IsInside w c) (HoldsSought w c sought_first)
+    (HoldsSought w c sought_last) (MayHoldEnd w c) = record {
       apart = λ k p q. omega (arith, p.to, q.from, apart, some_slot k);
       first = λ k below. inside_below w c bs.first.key k below blocks.first.inside;
       second = λ k below. inside_below w c bs.last.key k below blocks.last.inside;
@@ -218,17 +232,27 @@ ends_of_two v u w x c bs old mid new blocks apart ends same g h =
         ],
       );
       covers = λ S served k node own seen kind. elim kind.1 [
-        | inl before ↦ inl (below_first S w x c bs k blocks (ends S served) (node_key w k node) own seen before, (kind.0, inl (refl, before)))
-        | inr behind ↦ inr (below_last S w x c bs k blocks (ends S served) (node_key w k node) own seen behind, (kind.0, inr (refl, behind)))
+        | inl before ↦ inl (
+          below_first S w x c bs k blocks (ends S served) (node_key w k node) own seen before,
+          (kind.0, inl (refl, before)),
+        )
+        | inr behind ↦ inr (
+          below_last S w x c bs k blocks (ends S served) (node_key w k node) own seen behind,
+          (kind.0, inr (refl, behind)),
+        )
       ];
     } in
-    gathers_join v w (IsBelow bs.first.key) (IsBelow bs.last.key) (IsInside w c) (HoldsSought w c sought_first) (HoldsSought w c sought_last) (MayHoldEnd w c)
-    (most_ends (Some bs.first.span) sought_first bs.first.key) (most_ends (Some bs.last.span) sought_last bs.last.key) (2 * height w.axis.slots) old mid new
+    gathers_join v w (IsBelow bs.first.key) (IsBelow bs.last.key) (IsInside w c) (HoldsSought w c sought_first)
+    (HoldsSought w c sought_last) (MayHoldEnd w c)
+    (most_ends (Some bs.first.span) sought_first bs.first.key) (most_ends (Some bs.last.span) sought_last bs.last.key)
+    (2 * height w.axis.slots) old mid new
     joins (omega (arith, blocks.first.key.high, blocks.last.key.high)) g
-    (gathers_earlier v u w (IsBelow bs.last.key) (HoldsSought w c sought_last) (most_ends (Some bs.last.span) sought_last bs.last.key) mid new same h)
+    (gathers_earlier v u w (IsBelow bs.last.key) (HoldsSought w c sought_last)
+    (most_ends (Some bs.last.span) sought_last bs.last.key) mid new same h)
 
 -- the first stored value of the first block is that of the column
-pub first_of_column : (v : NodesView) (w : Window) (x c : ℕ) (bs : Blocks) (list : List (Option ℤ)) (o : Option ℤ) → AreBlocks w x c bs → ServesList v w list
+pub first_of_column : (v : NodesView) (w : Window) (x c : ℕ) (bs : Blocks) (list : List (Option ℤ)) (o : Option ℤ) → AreBlocks w x c bs
+    → ServesList v w list
     → AreEnds (list_seen list) w w.end c bs → IsFirstIn list w (first_slot bs.first.key) (end_slot bs.first.key) o → IsFirstOf list w c o
 first_of_column v w x c bs list None blocks served ends h = h
 first_of_column v w x c bs list (Some value) blocks served ends h = (
@@ -241,7 +265,8 @@ first_of_column v w x c bs list (Some value) blocks served ends h = (
       (λ from. h.4 j u from before holds),
 )
 
-pub last_of_column : (v : NodesView) (w : Window) (x c : ℕ) (bs : Blocks) (list : List (Option ℤ)) (o : Option ℤ) → AreBlocks w x c bs → ServesList v w list
+pub last_of_column : (v : NodesView) (w : Window) (x c : ℕ) (bs : Blocks) (list : List (Option ℤ)) (o : Option ℤ) → AreBlocks w x c bs
+    → ServesList v w list
     → AreEnds (list_seen list) w w.end c bs → IsLastIn list w (first_slot bs.last.key) (end_slot bs.last.key) o → IsLastOf list w c o
 last_of_column v w x c bs list None blocks served ends h = h
 last_of_column v w x c bs list (Some value) blocks served ends h = (
@@ -260,7 +285,8 @@ among_wider : (s b : Span) (o : Option ℤ) → IsPartOf s b → IfSome o (IsAmo
 among_wider s b None part h = tt
 among_wider s b (Some v) part h = (omega (arith, ints, part.low, h.0), omega (arith, ints, part.high, h.1))
 
-pub has_ends_one : (v t : NodesView) (w : Window) (x c : ℕ) (bs : Blocks) (old new : List (Key × Coef)) (values : EndValues) → AreBlocks w x c bs → bs.first ≡ bs.last
+pub has_ends_one : (v t : NodesView) (w : Window) (x c : ℕ) (bs : Blocks) (old new : List (Key × Coef)) (values : EndValues)
+    → AreBlocks w x c bs → bs.first ≡ bs.last
     → ((S : Seen) → Serves v w S → AreEnds S w w.end c bs) → Follows v t w c bs.first.key (Some bs.first.span) sought_both old new values
     → HasEnds v w c bs.span old new values
 has_ends_one v t w x c bs old new values blocks same ends f = record {
@@ -269,25 +295,32 @@ has_ends_one v t w x c bs old new values blocks same ends f = record {
     first = among_wider bs.span bs.first.span values.first blocks.first_part f.among.first;
     last = among_wider bs.span bs.first.span values.last blocks.first_part f.among.last;
   };
-  first = λ list served. first_of_column v w x c bs list values.first blocks served (ends (list_seen list) served.serves) (f.first list served refl refl);
+  first = λ list served. first_of_column v w x c bs list values.first blocks served (ends (list_seen list) served.serves)
+      (f.first list served refl refl);
   last = λ list served.
       let P : Block → Type 0 = λ b. IsLastIn list w (first_slot b.key) (end_slot b.key) values.last in
-      last_of_column v w x c bs list values.last blocks served (ends (list_seen list) served.serves) (subst P same (f.last list served refl refl));
+      last_of_column v w x c bs list values.last blocks served (ends (list_seen list) served.serves)
+      (subst P same (f.last list served refl refl));
 }
 
-pub has_ends_two : (v u t : NodesView) (w : Window) (x c : ℕ) (bs : Blocks) (old mid new : List (Key × Coef)) (front back values : EndValues) → AreBlocks w x c bs
+pub has_ends_two : (v u t : NodesView) (w : Window) (x c : ℕ) (bs : Blocks) (old mid new : List (Key × Coef))
+    (front back values : EndValues) → AreBlocks w x c bs
     → end_slot bs.first.key ≤ first_slot bs.last.key → ((S : Seen) → Serves v w S → AreEnds S w w.end c bs) → StaysSame v u
-    → Follows v u w c bs.first.key (Some bs.first.span) sought_first old mid front → Follows u t w c bs.last.key (Some bs.last.span) sought_last mid new back
+    → Follows v u w c bs.first.key (Some bs.first.span) sought_first old mid front
+    → Follows u t w c bs.last.key (Some bs.last.span) sought_last mid new back
     → values.first ≡ front.first → values.last ≡ back.last → HasEnds v w c bs.span old new values
 has_ends_two v u t w x c bs old mid new front back values blocks apart ends same f g ef eg = record {
   gathered = ends_of_two v u w x c bs old mid new blocks apart ends same f.gathered g.gathered;
   among = record {
-    first = (let P : Option ℤ → Type 0 = λ o. IfSome o (IsAmong (Some bs.span)) in subst P (sym ef) (among_wider bs.span bs.first.span front.first blocks.first_part f.among.first));
-    last = (let P : Option ℤ → Type 0 = λ o. IfSome o (IsAmong (Some bs.span)) in subst P (sym eg) (among_wider bs.span bs.last.span back.last blocks.last_part g.among.last));
+    first = (let P : Option ℤ → Type 0 = λ o. IfSome o (IsAmong (Some bs.span)) in
+        subst P (sym ef) (among_wider bs.span bs.first.span front.first blocks.first_part f.among.first));
+    last = (let P : Option ℤ → Type 0 = λ o. IfSome o (IsAmong (Some bs.span)) in
+        subst P (sym eg) (among_wider bs.span bs.last.span back.last blocks.last_part g.among.last));
   };
   first = λ list served.
       let P : Option ℤ → Type 0 = λ o. IsFirstOf list w c o in
-      subst P (sym ef) (first_of_column v w x c bs list front.first blocks served (ends (list_seen list) served.serves) (f.first list served refl refl));
+      subst P (sym ef) (first_of_column v w x c bs list front.first blocks served (ends (list_seen list) served.serves)
+      (f.first list served refl refl));
   last = λ list served.
       let P : Option ℤ → Type 0 = λ o. IsLastOf list w c o in
       subst P (sym eg) (last_of_column v w x c bs list back.last blocks served (ends (list_seen list) served.serves)
@@ -295,15 +328,18 @@ has_ends_two v u t w x c bs old mid new front back values blocks apart ends same
 }
 
 -- the counts of reads
-pub reads_one : (w : Window) (x c : ℕ) (bs : Blocks) (r0 r1 far : ℕ) → AreBlocks w x c bs → r1 ≤ r0 + most_ends (Some bs.first.span) sought_both bs.first.key + far
+pub reads_one : (w : Window) (x c : ℕ) (bs : Blocks) (r0 r1 far : ℕ) → AreBlocks w x c bs
+    → r1 ≤ r0 + most_ends (Some bs.first.span) sought_both bs.first.key + far
     → r1 ≤ r0 + (2 * height w.axis.slots + 2 * far)
 reads_one w x c bs r0 r1 far blocks a = omega (arith, a, blocks.first.key.high)
 
-pub reads_start : (w : Window) (x c : ℕ) (bs : Blocks) (r0 r1 far : ℕ) → AreBlocks w x c bs → r1 ≤ r0 + most_ends (Some bs.first.span) sought_first bs.first.key + far
+pub reads_start : (w : Window) (x c : ℕ) (bs : Blocks) (r0 r1 far : ℕ) → AreBlocks w x c bs
+    → r1 ≤ r0 + most_ends (Some bs.first.span) sought_first bs.first.key + far
     → r1 ≤ r0 + (2 * height w.axis.slots + 2 * far)
 reads_start w x c bs r0 r1 far blocks a = omega (arith, a, blocks.first.key.high)
 
-pub reads_two : (w : Window) (x c : ℕ) (bs : Blocks) (r0 r1 r2 far : ℕ) → AreBlocks w x c bs → r1 ≤ r0 + most_ends (Some bs.first.span) sought_first bs.first.key + far
+pub reads_two : (w : Window) (x c : ℕ) (bs : Blocks) (r0 r1 r2 far : ℕ) → AreBlocks w x c bs
+    → r1 ≤ r0 + most_ends (Some bs.first.span) sought_first bs.first.key + far
     → r2 ≤ r1 + most_ends (Some bs.last.span) sought_last bs.last.key + far → r2 ≤ r0 + (2 * height w.axis.slots + 2 * far)
 reads_two w x c bs r0 r1 r2 far blocks a b = omega (arith, a, b, blocks.first.key.high, blocks.last.key.high)
 
@@ -311,13 +347,16 @@ reads_two w x c bs r0 r1 r2 far blocks a b = omega (arith, a, b, blocks.first.ke
 value_between : (lo v hi : ℤ) → lo ≤ℤ v → v ≤ℤ hi → IsValue lo → IsValue hi → IsValue v
 value_between lo v hi a b p q = omega (arith, ints, a, b, p, q)
 
-among_or : (o : Option ℤ) (s : Span) → IsProper s → IfSome o (IsAmong (Some s)) → (s.min ≤ℤ unwrap_or o s.min) × (unwrap_or o s.min ≤ℤ s.max)
+among_or : (o : Option ℤ) (s : Span) → IsProper s → IfSome o (IsAmong (Some s))
+    → (s.min ≤ℤ unwrap_or o s.min) × (unwrap_or o s.min ≤ℤ s.max)
 among_or None s proper h = (omega (arith, ints), proper.ordered)
 among_or (Some v) s proper h = (h.0, h.1)
 
-shown_row : (w : Window) (c : ℕ) (s : Span) (values : EndValues) → c < w.grid.w → IsProper s → AreAmong (Some s) values → IsShownRow w.grid.w (row_by c s values)
+shown_row : (w : Window) (c : ℕ) (s : Span) (values : EndValues) → c < w.grid.w → IsProper s → AreAmong (Some s) values
+    → IsShownRow w.grid.w (row_by c s values)
 shown_row w c s values drawn proper among =
-    let first : (s.min ≤ℤ unwrap_or values.first s.min) × (unwrap_or values.first s.min ≤ℤ s.max) = among_or values.first s proper among.first in
+    let first : (s.min ≤ℤ unwrap_or values.first s.min)
+    × (unwrap_or values.first s.min ≤ℤ s.max) = among_or values.first s proper among.first in
     let last : (s.min ≤ℤ unwrap_or values.last s.min) × (unwrap_or values.last s.min ≤ℤ s.max) = among_or values.last s proper among.last in
     record {
       drawable = record {
@@ -334,15 +373,18 @@ shown_row w c s values drawn proper among =
       last_high = last.1;
     }
 
-first_value : (list : List (Option ℤ)) (w : Window) (c : ℕ) (o : Option ℤ) (d : ℤ) → IsFirstOf list w c o → IsFirstOf list w c (Some (unwrap_or o d))
+first_value : (list : List (Option ℤ)) (w : Window) (c : ℕ) (o : Option ℤ) (d : ℤ) → IsFirstOf list w c o
+    → IsFirstOf list w c (Some (unwrap_or o d))
 first_value list w c None d h = absurd h
 first_value list w c (Some v) d h = h
 
-last_value : (list : List (Option ℤ)) (w : Window) (c : ℕ) (o : Option ℤ) (d : ℤ) → IsLastOf list w c o → IsLastOf list w c (Some (unwrap_or o d))
+last_value : (list : List (Option ℤ)) (w : Window) (c : ℕ) (o : Option ℤ) (d : ℤ) → IsLastOf list w c o
+    → IsLastOf list w c (Some (unwrap_or o d))
 last_value list w c None d h = absurd h
 last_value list w c (Some v) d h = h
 
-pub column_some : (v : NodesView) (w : Window) (x c : ℕ) (bs : Blocks) (o : Option Blocks) (old new : List (Key × Coef)) (rows later : List Row) (values : EndValues) (row : Row) → o ≡ Some bs
+pub column_some : (v : NodesView) (w : Window) (x c : ℕ) (bs : Blocks) (o : Option Blocks) (old new : List (Key × Coef))
+    (rows later : List Row) (values : EndValues) (row : Row) → o ≡ Some bs
     → AreBlocksIfAny w x c o → ((list : List (Option ℤ)) → ServesList v w list → IsSpanBelowIfAny list w w.end c o)
     → HasEnds v w c bs.span old new values → row ≡ row_by c bs.span values → later ≡ rows ++ row ∷ [] → HasColumn v w c old new rows later
 column_some v w x c bs o old new rows later values row is given spans ends made pushed =
@@ -367,8 +409,10 @@ column_some v w x c bs o old new rows later values row is given spans ends made 
       });
     }
 
-pub column_none : (v : NodesView) (w : Window) (c : ℕ) (o : Option Blocks) (items : List (Key × Coef)) (rows : List Row) → o ≡ None → c < w.grid.w
-    → ((S : Seen) → Serves v w S → AreEndsIfAny S w w.end c o) → ((list : List (Option ℤ)) → ServesList v w list → IsSpanBelowIfAny list w w.end c o)
+pub column_none : (v : NodesView) (w : Window) (c : ℕ) (o : Option Blocks) (items : List (Key × Coef)) (rows : List Row) → o ≡ None
+    → c < w.grid.w
+    → ((S : Seen) → Serves v w S → AreEndsIfAny S w w.end c o)
+    → ((list : List (Option ℤ)) → ServesList v w list → IsSpanBelowIfAny list w w.end c o)
     → HasColumn v w c items items rows rows
 column_none v w c o items rows is drawn ends spans = record {
   gathered =
@@ -392,7 +436,8 @@ column_none v w c o items rows is drawn ends spans = record {
 pub no_columns : (v : NodesView) (w : Window) (items : List (Key × Coef)) → HasColumns v w 0 items items []
 no_columns v w items = record {
   gathered =
-      gathers_nothing v w (IsInColumns w 0) (IsEndKey w) (0 * (2 * height w.axis.slots)) items (λ S served k node part seen kind. omega (arith, part.below));
+      gathers_nothing v w (IsInColumns w 0) (IsEndKey w) (0 * (2 * height w.axis.slots)) items
+      (λ S served k node part seen kind. omega (arith, part.below));
   rising = λ i j d less short. absurd (omega arith);
   shown = All-nil (IsShownRow w.grid.w);
   below = All-nil (λ r. r.column < 0);
@@ -439,7 +484,8 @@ contains_last rows r =
     let P : List ℕ → Type 0 = λ cs. Contains cs r.column in
     subst P (sym (map-append (λ r. r.column) rows (r ∷ []))) (Contains-push (columns_of rows) r.column)
 
-pub more_columns : (v u : NodesView) (w : Window) (n : ℕ) (old mid new : List (Key × Coef)) (rows later : List Row) → StaysSame v u → HasColumns v w n old mid rows → HasColumn u w n mid new rows later
+pub more_columns : (v u : NodesView) (w : Window) (n : ℕ) (old mid new : List (Key × Coef)) (rows later : List Row) → StaysSame v u
+    → HasColumns v w n old mid rows → HasColumn u w n mid new rows later
     → HasColumns v w (n + 1) old new later
 more_columns v u w n old mid new rows later same h g = elim g.row [
   | inl none ↦
@@ -460,12 +506,15 @@ more_columns v u w n old mid new rows later same h g = elim g.row [
       let P : List Row → Type 0 = λ rs. HasColumns v w (n + 1) old new rs in
       subst P (sym some.is) (record {
         gathered = keys_more v u w n old mid new same h.gathered g.gathered;
-        rising = all_pairs_push (λ r s. r.column < s.column) rows some.row h.rising (λ k d less. omega (arith, h.below k d less, some.column));
+        rising = all_pairs_push (λ r s. r.column < s.column) rows some.row h.rising
+            (λ k d less. omega (arith, h.below k d less, some.column));
         shown = All-push (IsShownRow w.grid.w) rows some.row h.shown some.shown;
         below =
-            All-push (λ r. r.column < n + 1) rows some.row (All-weaker (λ r. r.column < n) (λ r. r.column < n + 1) (λ r less. omega arith) rows h.below)
+            All-push (λ r. r.column < n + 1) rows some.row
+            (All-weaker (λ r. r.column < n) (λ r. r.column < n + 1) (λ r less. omega arith) rows h.below)
             (omega (arith, some.column));
-        each = λ list served. All-push (IsRowOf list w) rows some.row (h.each list served) (some.of_list list (serves_list_later v u w list same served));
+        each = λ list served. All-push (IsRowOf list w) rows some.row (h.each list served)
+            (some.of_list list (serves_list_later v u w list same served));
         every = λ list served c i value less is holds.
             by_lt c n (λ below. contains_more rows some.row c (h.every list served c i value below is holds))
             (λ more.
@@ -476,14 +525,18 @@ more_columns v u w n old mid new rows later same h g = elim g.row [
 ]
 
 -- an entry by its place under another name
-pub held_at : (w : Window) (x c d : ℕ) (table : List (Option Blocks)) → d ≡ c → c < w.grid.w → HoldBlocks w x table → AreBlocksIfAny w x c (entry table d)
+pub held_at : (w : Window) (x c d : ℕ) (table : List (Option Blocks)) → d ≡ c → c < w.grid.w → HoldBlocks w x table
+    → AreBlocksIfAny w x c (entry table d)
 held_at w x c d table is below h = let P : ℕ → Type 0 = λ n. AreBlocksIfAny w x c (entry table n) in subst P (sym is) (h c below)
 
-pub ends_at : (S : Seen) (w : Window) (x c d : ℕ) (table : List (Option Blocks)) → d ≡ c → c < w.grid.w → HoldEnds S w x table → AreEndsIfAny S w x c (entry table d)
+pub ends_at : (S : Seen) (w : Window) (x c d : ℕ) (table : List (Option Blocks)) → d ≡ c → c < w.grid.w → HoldEnds S w x table
+    → AreEndsIfAny S w x c (entry table d)
 ends_at S w x c d table is below h = let P : ℕ → Type 0 = λ n. AreEndsIfAny S w x c (entry table n) in subst P (sym is) (h c below)
 
-pub spans_at : (list : List (Option ℤ)) (w : Window) (x c d : ℕ) (table : List (Option Blocks)) → d ≡ c → c < w.grid.w → HoldSpans list w x table → IsSpanBelowIfAny list w x c (entry table d)
-spans_at list w x c d table is below h = let P : ℕ → Type 0 = λ n. IsSpanBelowIfAny list w x c (entry table n) in subst P (sym is) (h c below)
+pub spans_at : (list : List (Option ℤ)) (w : Window) (x c d : ℕ) (table : List (Option Blocks)) → d ≡ c → c < w.grid.w
+    → HoldSpans list w x table → IsSpanBelowIfAny list w x c (entry table d)
+spans_at list w x c d table is below h = let P : ℕ → Type 0 = λ n. IsSpanBelowIfAny list w x c (entry table n) in
+    subst P (sym is) (h c below)
 
 -- the counts of reads
 pub reads_column : (r0 r1 r2 n each : ℕ) → r1 ≤ r0 + n * each → r2 ≤ r1 + each → r2 ≤ r0 + (n + 1) * each

@@ -1,4 +1,5 @@
-use Rattle.std.proofs.Common.{ℕ, suc, ℤ, ◌≡◌, ◌+◌, ◌-◌, ◌*◌, ◌^◌, ◌<◌, ◌≤◌, ◌≤ℤ◌, ◌⊎◌, inl, inr, Bool, true, false, cond, List, [], ◌∷◌, ◌++◌, refl, sym, ◌∙◌, ap, subst, arith}
+use Rattle.std.proofs.Common.{ℕ, suc, ℤ, ◌≡◌, ◌+◌, ◌-◌, ◌*◌, ◌^◌, ◌<◌, ◌≤◌, ◌≤ℤ◌, ◌⊎◌, inl, inr, Bool, true, false, cond, List, [], ◌∷◌}
+use Rattle.std.proofs.Common.{◌++◌, refl, sym, ◌∙◌, ap, subst, arith}
 use Rattle.std.proofs.lemmas.Int.{ints, clamps}
 use Rattle.std.proofs.lemmas.Option.{same_Some}
 use Rattle.std.specs.Prelude.{Option, Some, None, IsTrue, IsSome, IfSome, is_none, ◌&&◌}
@@ -22,14 +23,17 @@ use Rattle.needed_nodes.specs.Ranks.{IsInside, IsBelow}
 use Rattle.needed_nodes.specs.Answers.{CanSplit}
 use Rattle.needed_nodes.specs.Serving.{Serves, ServesList, shown_by, IsReady}
 use Rattle.needed_nodes.specs.Gathering.{Gathered}
-use Rattle.needed_nodes.specs.Ends.{MayHold, HoldsSought, one_if, most_ends, sought_left, sought_right, slot_values, either, halves_values, IsAmong, AreAmong, HoldsAs, IsFirstIn, IsLastIn, Follows}
+use Rattle.needed_nodes.specs.Ends.{MayHold, HoldsSought, one_if, most_ends, sought_left, sought_right, slot_values, either, halves_values}
+use Rattle.needed_nodes.specs.Ends.{IsAmong, AreAmong, HoldsAs, IsFirstIn, IsLastIn, Follows}
 use Rattle.needed_nodes.proofs.StoredEnds.{FirstStored, LastStored, first_stored, last_stored}
 use Rattle.needed_nodes.proofs.Nesting.{at_or_above, some_slot, left_below, right_below, below_on, below_itself, below_cases}
 use Rattle.needed_nodes.proofs.Nesting.BelowCase.{at_key, in_left, in_right}
 use Rattle.needed_nodes.proofs.RankLaws.{inside_below, inside_rank, rank_column}
-use Rattle.needed_nodes.proofs.ServeLaws.{uneven_of, HasSlot, unclear_slot, serves_later, serves_earlier, end_wanted, clear_slot, clear_key, node_of, stays_below_at, serves_list_later}
+use Rattle.needed_nodes.proofs.ServeLaws.{uneven_of, HasSlot, unclear_slot, serves_later, serves_earlier, end_wanted, clear_slot, clear_key}
+use Rattle.needed_nodes.proofs.ServeLaws.{node_of, stays_below_at, serves_list_later}
 use Rattle.needed_nodes.proofs.GatherLaws.{gathers_nothing}
-use Rattle.needed_nodes.proofs.StepLaws.{list_extremes, list_none, Halves, gathers_halves, halves_apart, left_apart, right_apart, some_count}
+use Rattle.needed_nodes.proofs.StepLaws.{list_extremes, list_none, Halves, gathers_halves, halves_apart, left_apart, right_apart}
+use Rattle.needed_nodes.proofs.StepLaws.{some_count}
 
 and_true : (a b : Bool) → (a && b) ≡ true → (a ≡ true) × (b ≡ true)
 and_true true b h = (refl, h)
@@ -48,7 +52,8 @@ is_none_true None h = refl
 is_none_true (Some x) h = absurd (cc)
 
 -- the key is one that the view wants where it may hold a sought end
-pub sought_wanted : (v : NodesView) (w : Window) (c : ℕ) (k : Key) (s : Span) (sought : Sought) → IsReady v w k (Some s) → 1 ≤ k.level → IsInside w c k
+pub sought_wanted : (v : NodesView) (w : Window) (c : ℕ) (k : Key) (s : Span) (sought : Sought) → IsReady v w k (Some s) → 1 ≤ k.level
+    → IsInside w c k
     → (IsFlat w.lo w.hi w.grid.h s → ⊥) → IsTrue sought.first ⊎ IsTrue sought.last → ((S : Seen) → Serves v w S → MayHold S w c sought k)
     → (S : Seen) → Serves v w S → IsWanted S w.axis w.grid w.lo w.hi k
 sought_wanted v w c k s sought ready low own uneven some hold S served =
@@ -80,7 +85,8 @@ hold_right S w c k sought left node shown h = record {
   last = λ last i column behind. h.last last i column (omega (arith, right_end k node.low));
 }
 
-pub may_hold_left : (v u : NodesView) (w : Window) (c : ℕ) (k l : Key) (s : Option Span) (sought sl : Sought) (right : Option Span) → l ≡ left_of k → sl ≡ sought_left sought right
+pub may_hold_left : (v u : NodesView) (w : Window) (c : ℕ) (k l : Key) (s : Option Span) (sought sl : Sought) (right : Option Span)
+    → l ≡ left_of k → sl ≡ sought_left sought right
     → IsReady v w k s → 1 ≤ k.level → StaysSame v u → IsReady u w (right_of k) right → ((S : Seen) → Serves v w S → MayHold S w c sought k)
     → (S : Seen) → Serves u w S → MayHold S w c sl l
 may_hold_left v u w c k l s sought sl right el es ready low same there hold S served =
@@ -89,8 +95,10 @@ may_hold_left v u w c k l s sought sl right el es ready low same there hold S se
     subst P (sym el) (subst Q (sym es)
     (hold_left S w c k sought right (node_of v w k s ready low) (there.known S served) (hold S (serves_earlier v u w S same served))))
 
-pub may_hold_right : (v u t : NodesView) (w : Window) (c : ℕ) (k r : Key) (s : Option Span) (sought sr : Sought) (left : Option Span) → r ≡ right_of k → sr ≡ sought_right sought left
-    → IsReady v w k s → 1 ≤ k.level → StaysSame v u → StaysSame v t → IsReady u w (left_of k) left → ((S : Seen) → Serves v w S → MayHold S w c sought k)
+pub may_hold_right : (v u t : NodesView) (w : Window) (c : ℕ) (k r : Key) (s : Option Span) (sought sr : Sought) (left : Option Span)
+    → r ≡ right_of k → sr ≡ sought_right sought left
+    → IsReady v w k s → 1 ≤ k.level → StaysSame v u → StaysSame v t → IsReady u w (left_of k) left
+    → ((S : Seen) → Serves v w S → MayHold S w c sought k)
     → (S : Seen) → Serves t w S → MayHold S w c sr r
 may_hold_right v u t w c k r s sought sr left er es ready low same same_t there hold S served =
     let before : Serves v w S = serves_earlier v t w S same_t served in
@@ -130,7 +138,8 @@ left_empty S w c k b (Some s) node own shown below clear =
     (omega (arith, h.to, below.from))))
 
 -- which keys hold a sought end, by the halves
-end_halves : (v u : NodesView) (w : Window) (c : ℕ) (k : Key) (sought : Sought) (left right : Option Span) → IsNode (height w.axis.slots) k → IsInside w c k
+end_halves : (v u : NodesView) (w : Window) (c : ℕ) (k : Key) (sought : Sought) (left right : Option Span) → IsNode (height w.axis.slots) k
+    → IsInside w c k
     → StaysSame v u → IsReady u w (left_of k) left → IsReady u w (right_of k) right
     → Halves v w k (IsBelow (left_of k)) (IsBelow (right_of k)) (IsBelow k)
     (HoldsSought w c (sought_left sought right)) (HoldsSought w c (sought_right sought left)) (HoldsSought w c sought)
@@ -191,7 +200,8 @@ end_halves v u w c k sought left right node own same_views lready rready = recor
 }
 
 -- how many they are
-count_both : (m : ℕ) (f l : Bool) → (f ≡ true) ⊎ (l ≡ true) → 1 + m * (one_if f + one_if (l && false)) + m * (one_if (f && false) + one_if l) ≤ suc m * (one_if f + one_if l)
+count_both : (m : ℕ) (f l : Bool) → (f ≡ true) ⊎ (l ≡ true)
+    → 1 + m * (one_if f + one_if (l && false)) + m * (one_if (f && false) + one_if l) ≤ suc m * (one_if f + one_if l)
 count_both m true true some = omega arith
 count_both m true false some = omega arith
 count_both m false true some = omega arith
@@ -209,8 +219,10 @@ count_other m true false some = omega arith
 count_other m false true some = omega arith
 count_other m false false some = elim some [ inl h ↦ absurd (cc) | inr h ↦ absurd (cc) ]
 
-count_ends : (m : ℕ) (k : Key) (sought : Sought) (s : Span) (left right : Option Span) → k.level ≡ suc m → IsTrue sought.first ⊎ IsTrue sought.last → hull left right ≡ Some s
-    → 1 + most_ends left (sought_left sought right) (left_of k) + most_ends right (sought_right sought left) (right_of k) ≤ suc m * (one_if sought.first + one_if sought.last)
+count_ends : (m : ℕ) (k : Key) (sought : Sought) (s : Span) (left right : Option Span) → k.level ≡ suc m
+    → IsTrue sought.first ⊎ IsTrue sought.last → hull left right ≡ Some s
+    → 1 + most_ends left (sought_left sought right) (left_of k) + most_ends right (sought_right sought left)
+    (right_of k) ≤ suc m * (one_if sought.first + one_if sought.last)
 count_ends m k sought s (Some a) (Some b) level some whole =
     let down : k.level - 1 ≡ m = omega arith in
     omega (
@@ -227,7 +239,8 @@ count_ends m k sought s None (Some b) level some whole =
     omega (arith, count_other m sought.first sought.last some, ap (λ n. n * (one_if (sought.first && true) + one_if sought.last)) down)
 count_ends m k sought s None None level some whole = absurd (cc)
 
-pub most_ends_halves : (k l r : Key) (sought sl sr : Sought) (s : Span) (left right : Option Span) → 1 ≤ k.level → l ≡ left_of k → r ≡ right_of k
+pub most_ends_halves : (k l r : Key) (sought sl sr : Sought) (s : Span) (left right : Option Span) → 1 ≤ k.level → l ≡ left_of k
+    → r ≡ right_of k
     → sl ≡ sought_left sought right → sr ≡ sought_right sought left → IsTrue sought.first ⊎ IsTrue sought.last → hull left right ≡ Some s
     → 1 + most_ends left sl l + most_ends right sr r ≤ most_ends (Some s) sought k
 most_ends_halves k l r sought sl sr s left right low el er esl esr some whole =
@@ -256,7 +269,8 @@ ends_none v w c k sought items ready =
     let none : shown_by S w b ≡ Some None = clear_key S w k b ready.key (ready.known S served) part in
     let some : shown_by S w b ≡ Some (Some seen.0) = seen.1 in cc)
 
-pub ends_unsought : (v : NodesView) (w : Window) (c : ℕ) (k : Key) (s : Option Span) (sought : Sought) (items : List (Key × Coef)) → (sought.first ≡ false) × (sought.last ≡ false)
+pub ends_unsought : (v : NodesView) (w : Window) (c : ℕ) (k : Key) (s : Option Span) (sought : Sought) (items : List (Key × Coef))
+    → (sought.first ≡ false) × (sought.last ≡ false)
     → Gathered v w (IsBelow k) (HoldsSought w c sought) (most_ends s sought k) items items
 ends_unsought v w c k s sought items off =
     gathers_nothing v w (IsBelow k) (HoldsSought w c sought) (most_ends s sought k) items
@@ -281,24 +295,29 @@ FlatBelow =
 abbrev pub FlatValues : Type 0
 FlatValues = (lo hi v : ℤ) (h : ℕ) (s : Span) → IsFlat lo hi h s → s.min ≤ℤ v → v ≤ℤ s.max → height_of v lo hi h ≡ height_of s.min lo hi h
 
-ends_flat : FlatBelow → (v : NodesView) (w : Window) (c : ℕ) (k : Key) (s : Span) (sought : Sought) (items : List (Key × Coef)) → IsReady v w k (Some s) → IsFlat w.lo w.hi w.grid.h s
+ends_flat : FlatBelow → (v : NodesView) (w : Window) (c : ℕ) (k : Key) (s : Span) (sought : Sought) (items : List (Key × Coef))
+    → IsReady v w k (Some s) → IsFlat w.lo w.hi w.grid.h s
     → Gathered v w (IsBelow k) (HoldsSought w c sought) (most_ends (Some s) sought k) items items
 ends_flat below v w c k s sought items ready flat =
     gathers_nothing v w (IsBelow k) (HoldsSought w c sought) (most_ends (Some s) sought k) items
     (λ S served b node part seen kind.
     kind.0 seen.0 seen.1
-    (below S.root S.told (height w.axis.slots) k b w.lo w.hi w.grid.h seen.0 s ready.key.high (at_or_above k b part) (ready.known S served) seen.1 flat))
+    (below S.root S.told (height w.axis.slots) k b w.lo w.hi w.grid.h seen.0 s ready.key.high (at_or_above k b part)
+    (ready.known S served) seen.1 flat))
 
 -- the keys of the halves, and the key
-pub ends_both : (v u t : NodesView) (w : Window) (c : ℕ) (k l r : Key) (s : Span) (sought sl sr : Sought) (left right : Option Span) (coef : Coef) (old one mid new : List (Key × Coef))
+pub ends_both : (v u t : NodesView) (w : Window) (c : ℕ) (k l r : Key) (s : Span) (sought sl sr : Sought) (left right : Option Span)
+    (coef : Coef) (old one mid new : List (Key × Coef))
     → l ≡ left_of k → r ≡ right_of k → sl ≡ sought_left sought right → sr ≡ sought_right sought left
-    → IsReady v w k (Some s) → 1 ≤ k.level → IsInside w c k → (IsFlat w.lo w.hi w.grid.h s → ⊥) → IsTrue sought.first ⊎ IsTrue sought.last → ((S : Seen) → Serves v w S → MayHold S w c sought k)
+    → IsReady v w k (Some s) → 1 ≤ k.level → IsInside w c k → (IsFlat w.lo w.hi w.grid.h s → ⊥) → IsTrue sought.first ⊎ IsTrue sought.last
+    → ((S : Seen) → Serves v w S → MayHold S w c sought k)
     → hull left right ≡ Some s → StaysSame v u → IsReady u w (left_of k) left → IsReady u w (right_of k) right
     → ((S : Seen) → Serves v w S → S.told k ≡ Some coef) → CanSplit coef → one ≡ old ++ (k, coef) ∷ []
     → Gathered u w (IsBelow l) (HoldsSought w c sl) (most_ends left sl l) one mid
     → StaysSame v t → Gathered t w (IsBelow r) (HoldsSought w c sr) (most_ends right sr r) mid new
     → Gathered v w (IsBelow k) (HoldsSought w c sought) (most_ends (Some s) sought k) old new
-ends_both v u t w c k l r s sought sl sr left right coef old one mid new el er esl esr ready low own uneven some hold whole same_u lready rready told good is g same_t h =
+ends_both v u t w c k l r s sought sl sr left right coef old one mid new el er esl esr ready low own uneven some hold whole same_u lready
+    rready told good is g same_t h =
     let node : IsNode (height w.axis.slots) k = node_of v w k (Some s) ready low in
     let L : Key → Sought → Type 0 = λ b x. Gathered u w (IsBelow b) (HoldsSought w c x) (most_ends left x b) one mid in
     let R : Key → Sought → Type 0 = λ b x. Gathered t w (IsBelow b) (HoldsSought w c x) (most_ends right x b) mid new in
@@ -308,9 +327,11 @@ ends_both v u t w c k l r s sought sl sr left right coef old one mid new el er e
     (let P : Key → Type 0 = λ b. R b (sought_right sought left) in let Q : Sought → Type 0 = λ x. R r x in subst P er (subst Q esr h)) in
     gathers_halves v u t w k coef (IsBelow (left_of k)) (IsBelow (right_of k)) (IsBelow k)
     (HoldsSought w c (sought_left sought right)) (HoldsSought w c (sought_right sought left)) (HoldsSought w c sought)
-    (most_ends left (sought_left sought right) (left_of k)) (most_ends right (sought_right sought left) (right_of k)) (most_ends (Some s) sought k) old one mid new
+    (most_ends left (sought_left sought right) (left_of k)) (most_ends right (sought_right sought left) (right_of k))
+    (most_ends (Some s) sought k) old one mid new
     (end_halves v u w c k sought left right node own same_u lready rready)
-    (most_ends_halves k (left_of k) (right_of k) sought (sought_left sought right) (sought_right sought left) s left right low refl refl refl refl some whole)
+    (most_ends_halves k (left_of k) (right_of k) sought (sought_left sought right)
+    (sought_right sought left) s left right low refl refl refl refl some whole)
     node good
     (λ S served. record {
       kind = (
@@ -323,7 +344,8 @@ ends_both v u t w c k l r s sought sl sr left right coef old one mid new el er e
     is same_u gl same_t gr
 
 -- values lie within the span
-either_among : (a b : Option ℤ) (P Q R : ℤ → Type 0) → ((v : ℤ) → P v → R v) → ((v : ℤ) → Q v → R v) → IfSome a P → IfSome b Q → IfSome (either a b) R
+either_among : (a b : Option ℤ) (P Q R : ℤ → Type 0) → ((v : ℤ) → P v → R v) → ((v : ℤ) → Q v → R v) → IfSome a P → IfSome b Q
+    → IfSome (either a b) R
 either_among None b P Q R p q h g = some_map b Q R q g
   where
     some_map : (b : Option ℤ) (Q R : ℤ → Type 0) → ((v : ℤ) → Q v → R v) → IfSome b Q → IfSome b R
@@ -349,13 +371,16 @@ among_right s (Some a) (Some b) v whole h =
     let P : Span → Type 0 = λ t. IsAmong (Some t) v in
     subst P (same_Some t s whole) (omega (arith, ints, clamps, h.0), omega (arith, ints, clamps, h.1))
 
-pub among_halves : (s : Span) (left right : Option Span) (l r values : EndValues) → hull left right ≡ Some s → AreAmong left l → AreAmong right r → values ≡ halves_values l r
+pub among_halves : (s : Span) (left right : Option Span) (l r values : EndValues) → hull left right ≡ Some s → AreAmong left l
+    → AreAmong right r → values ≡ halves_values l r
     → AreAmong (Some s) values
 among_halves s left right l r values whole h g is =
     let P : EndValues → Type 0 = λ x. AreAmong (Some s) x in
     subst P (sym is) (record {
-      first = either_among l.first r.first (IsAmong left) (IsAmong right) (IsAmong (Some s)) (λ v. among_left s left right v whole) (λ v. among_right s left right v whole) h.first g.first;
-      last = either_among r.last l.last (IsAmong right) (IsAmong left) (IsAmong (Some s)) (λ v. among_right s left right v whole) (λ v. among_left s left right v whole) g.last h.last;
+      first = either_among l.first r.first (IsAmong left) (IsAmong right) (IsAmong (Some s)) (λ v. among_left s left right v whole)
+          (λ v. among_right s left right v whole) h.first g.first;
+      last = either_among r.last l.last (IsAmong right) (IsAmong left) (IsAmong (Some s)) (λ v. among_right s left right v whole)
+          (λ v. among_left s left right v whole) g.last h.last;
     })
 
 pub among_none : (s : Option Span) (values : EndValues) → values.first ≡ None → values.last ≡ None → AreAmong s values
@@ -366,18 +391,23 @@ cond_among : (b : Bool) (v : ℤ) (P : ℤ → Type 0) → P v → IfSome (cond 
 cond_among true v P h = h
 cond_among false v P h = tt
 
-pub among_slot : (s : Span) (sought : Sought) (values : EndValues) → s.min ≤ℤ s.max → values ≡ slot_values sought s.min → AreAmong (Some s) values
+pub among_slot : (s : Span) (sought : Sought) (values : EndValues) → s.min ≤ℤ s.max → values ≡ slot_values sought s.min
+    → AreAmong (Some s) values
 among_slot s sought values order is =
     let P : EndValues → Type 0 = λ x. AreAmong (Some s) x in
     let here : IsAmong (Some s) s.min = (omega (arith, ints), order) in
-    subst P (sym is) (record { first = cond_among sought.first s.min (IsAmong (Some s)) here; last = cond_among sought.last s.min (IsAmong (Some s)) here })
+    subst P (sym is) (record {
+      first = cond_among sought.first s.min (IsAmong (Some s)) here;
+      last = cond_among sought.last s.min (IsAmong (Some s)) here;
+    })
 
 -- the first stored value of a range
 first_wider : (list : List (Option ℤ)) (w : Window) (a b c : ℕ) (o : Option ℤ) → b ≤ c → IsFirstIn list w a b o → IsFirstIn list w a c o
 first_wider list w a b c None le h = h
 first_wider list w a b c (Some v) le h = (h.0, h.1, omega (arith, h.2), h.3, h.4)
 
-first_later : (list : List (Option ℤ)) (w : Window) (a b c : ℕ) (o : Option ℤ) → a ≤ b → IsClear list a b → IsFirstIn list w b c o → IsFirstIn list w a c o
+first_later : (list : List (Option ℤ)) (w : Window) (a b c : ℕ) (o : Option ℤ) → a ≤ b → IsClear list a b → IsFirstIn list w b c o
+    → IsFirstIn list w a c o
 first_later list w a b c None le clear h = h
 first_later list w a b c (Some v) le clear h =
     (h.0, omega (arith, h.1), h.2, h.3, λ i x from to. by_lt i b (λ less. clear i x from less) (λ past. h.4 i x past to))
@@ -386,7 +416,8 @@ last_wider : (list : List (Option ℤ)) (w : Window) (a b c : ℕ) (o : Option �
 last_wider list w a b c None le h = h
 last_wider list w a b c (Some v) le h = (h.0, omega (arith, h.1), h.2, h.3, h.4)
 
-last_earlier : (list : List (Option ℤ)) (w : Window) (a b c : ℕ) (o : Option ℤ) → b ≤ c → IsClear list b c → IsLastIn list w a b o → IsLastIn list w a c o
+last_earlier : (list : List (Option ℤ)) (w : Window) (a b c : ℕ) (o : Option ℤ) → b ≤ c → IsClear list b c → IsLastIn list w a b o
+    → IsLastIn list w a c o
 last_earlier list w a b c None le clear h = h
 last_earlier list w a b c (Some v) le clear h =
     (h.0, h.1, omega (arith, h.2), h.3, λ i x from to. by_lt i b (λ less. h.4 i x from less) (λ past. clear i x past to))
@@ -404,7 +435,8 @@ none_among : (o : Option ℤ) → IfSome o (IsAmong None) → o ≡ None
 none_among None h = refl
 none_among (Some v) h = absurd h
 
-first_by : (u : NodesView) (w : Window) (k : Key) (left right : Option Span) (f : Bool) (a b : Option ℤ) (s : Span) (list : List (Option ℤ)) → 1 ≤ k.level → hull left right ≡ Some s
+first_by : (u : NodesView) (w : Window) (k : Key) (left right : Option Span) (f : Bool) (a b : Option ℤ) (s : Span) (list : List (Option ℤ))
+    → 1 ≤ k.level → hull left right ≡ Some s
     → IsReady u w (left_of k) left → ServesList u w list → IfSome a (IsAmong left) → f ≡ true
     → (f ≡ true → IsSome left → IsFirstIn list w (first_slot (left_of k)) (end_slot (left_of k)) a)
     → ((f && is_none left) ≡ true → IsSome right → IsFirstIn list w (first_slot (right_of k)) (end_slot (right_of k)) b)
@@ -413,20 +445,23 @@ first_by u w k (Some l) right f a b s list low whole ready served among on h g =
     let here : IsFirstIn list w (first_slot (left_of k)) (end_slot (left_of k)) a = h on refl in
     let P : ℕ → Type 0 = λ n. IsFirstIn list w n (end_slot k) a in
     either_first list w (first_slot k) (end_slot k) a b
-    (subst P (left_first k low) (first_wider list w (first_slot (left_of k)) (end_slot (left_of k)) (end_slot k) a (omega (arith, right_some k low)) here))
+    (subst P (left_first k low) (first_wider list w (first_slot (left_of k)) (end_slot (left_of k)) (end_slot k) a
+    (omega (arith, right_some k low)) here))
 first_by u w k None None f a b s list low whole ready served among on h g = absurd (cc)
 first_by u w k None (Some r) f a b s list low whole ready served among on h g =
     let none : a ≡ None = none_among a among in
     let there : IsFirstIn list w (first_slot (right_of k)) (end_slot (right_of k)) b = g (true_and f true on refl) refl in
     let clear : IsClear list (first_slot (left_of k)) (end_slot (left_of k)) = list_none u w (left_of k) list ready served in
     let whole_range : IsFirstIn list w (first_slot (left_of k)) (end_slot (right_of k)) b =
-    first_later list w (first_slot (left_of k)) (first_slot (right_of k)) (end_slot (right_of k)) b (omega (arith, some_slot (left_of k))) clear there in
+    first_later list w (first_slot (left_of k)) (first_slot (right_of k)) (end_slot (right_of k)) b
+    (omega (arith, some_slot (left_of k))) clear there in
     let P : ℕ → Type 0 = λ n. IsFirstIn list w n (end_slot (right_of k)) b in
     let Q : ℕ → Type 0 = λ n. IsFirstIn list w (first_slot k) n b in
     let R : Option ℤ → Type 0 = λ o. IsFirstIn list w (first_slot k) (end_slot k) (either o b) in
     subst R (sym none) (subst Q (right_end k low) (subst P (left_first k low) whole_range))
 
-last_by : (u : NodesView) (w : Window) (k : Key) (left right : Option Span) (f : Bool) (a b : Option ℤ) (s : Span) (list : List (Option ℤ)) → 1 ≤ k.level → hull left right ≡ Some s
+last_by : (u : NodesView) (w : Window) (k : Key) (left right : Option Span) (f : Bool) (a b : Option ℤ) (s : Span) (list : List (Option ℤ))
+    → 1 ≤ k.level → hull left right ≡ Some s
     → IsReady u w (right_of k) right → ServesList u w list → IfSome b (IsAmong right) → f ≡ true
     → ((f && is_none right) ≡ true → IsSome left → IsLastIn list w (first_slot (left_of k)) (end_slot (left_of k)) a)
     → (f ≡ true → IsSome right → IsLastIn list w (first_slot (right_of k)) (end_slot (right_of k)) b)
@@ -435,22 +470,26 @@ last_by u w k left (Some r) f a b s list low whole ready served among on h g =
     let here : IsLastIn list w (first_slot (right_of k)) (end_slot (right_of k)) b = g on refl in
     let P : ℕ → Type 0 = λ n. IsLastIn list w (first_slot k) n b in
     either_last list w (first_slot k) (end_slot k) b a
-    (subst P (right_end k low) (last_wider list w (first_slot k) (first_slot (right_of k)) (end_slot (right_of k)) b (omega (arith, left_some k low)) here))
+    (subst P (right_end k low) (last_wider list w (first_slot k) (first_slot (right_of k)) (end_slot (right_of k)) b
+    (omega (arith, left_some k low)) here))
 last_by u w k None None f a b s list low whole ready served among on h g = absurd (cc)
 last_by u w k (Some l) None f a b s list low whole ready served among on h g =
     let none : b ≡ None = none_among b among in
     let there : IsLastIn list w (first_slot (left_of k)) (end_slot (left_of k)) a = h (true_and f true on refl) refl in
     let clear : IsClear list (first_slot (right_of k)) (end_slot (right_of k)) = list_none u w (right_of k) list ready served in
     let whole_range : IsLastIn list w (first_slot (left_of k)) (end_slot (right_of k)) a =
-    last_earlier list w (first_slot (left_of k)) (end_slot (left_of k)) (end_slot (right_of k)) a (omega (arith, some_slot (right_of k))) clear there in
+    last_earlier list w (first_slot (left_of k)) (end_slot (left_of k)) (end_slot (right_of k)) a
+    (omega (arith, some_slot (right_of k))) clear there in
     let P : ℕ → Type 0 = λ n. IsLastIn list w n (end_slot (right_of k)) a in
     let Q : ℕ → Type 0 = λ n. IsLastIn list w (first_slot k) n a in
     let R : Option ℤ → Type 0 = λ o. IsLastIn list w (first_slot k) (end_slot k) (either o a) in
     subst R (sym none) (subst Q (right_end k low) (subst P (left_first k low) whole_range))
 
 -- the values of the halves under other names
-pub first_halves : (u : NodesView) (w : Window) (k l r : Key) (left right : Option Span) (sought sl sr : Sought) (lv rv values : EndValues) (s : Span) (list : List (Option ℤ)) → 1 ≤ k.level
-    → l ≡ left_of k → r ≡ right_of k → sl ≡ sought_left sought right → sr ≡ sought_right sought left → hull left right ≡ Some s → values ≡ halves_values lv rv
+pub first_halves : (u : NodesView) (w : Window) (k l r : Key) (left right : Option Span) (sought sl sr : Sought) (lv rv values : EndValues)
+    (s : Span) (list : List (Option ℤ)) → 1 ≤ k.level
+    → l ≡ left_of k → r ≡ right_of k → sl ≡ sought_left sought right → sr ≡ sought_right sought left → hull left right ≡ Some s
+    → values ≡ halves_values lv rv
     → IsReady u w (left_of k) left → ServesList u w list → AreAmong left lv → IsTrue sought.first
     → (IsTrue sl.first → IsSome left → IsFirstIn list w (first_slot l) (end_slot l) lv.first)
     → (IsTrue sr.first → IsSome right → IsFirstIn list w (first_slot r) (end_slot r) rv.first)
@@ -465,8 +504,10 @@ first_halves u w k l r left right sought sl sr lv rv values s list low el er esl
     let R : EndValues → Type 0 = λ x. IsFirstIn list w (first_slot k) (end_slot k) x.first in
     subst R (sym is) (first_by u w k left right sought.first lv.first rv.first s list low whole ready served among.first on hl gr)
 
-pub last_halves : (u : NodesView) (w : Window) (k l r : Key) (left right : Option Span) (sought sl sr : Sought) (lv rv values : EndValues) (s : Span) (list : List (Option ℤ)) → 1 ≤ k.level
-    → l ≡ left_of k → r ≡ right_of k → sl ≡ sought_left sought right → sr ≡ sought_right sought left → hull left right ≡ Some s → values ≡ halves_values lv rv
+pub last_halves : (u : NodesView) (w : Window) (k l r : Key) (left right : Option Span) (sought sl sr : Sought) (lv rv values : EndValues)
+    (s : Span) (list : List (Option ℤ)) → 1 ≤ k.level
+    → l ≡ left_of k → r ≡ right_of k → sl ≡ sought_left sought right → sr ≡ sought_right sought left → hull left right ≡ Some s
+    → values ≡ halves_values lv rv
     → IsReady u w (right_of k) right → ServesList u w list → AreAmong right rv → IsTrue sought.last
     → (IsTrue sl.last → IsSome left → IsLastIn list w (first_slot l) (end_slot l) lv.last)
     → (IsTrue sr.last → IsSome right → IsLastIn list w (first_slot r) (end_slot r) rv.last)
@@ -489,41 +530,61 @@ itself list w i v holds = record { value = v; stored = holds; same = refl }
 one_slot : (k : Key) → k.level ≡ 0 → end_slot k ≡ first_slot k + 1
 one_slot k none = omega (arith, ap (λ n. k.index * 2 ^ n) none, ap (λ n. (k.index + 1) * 2 ^ n) none)
 
-pub first_slot_value : (v : NodesView) (w : Window) (k : Key) (s : Span) (sought : Sought) (values : EndValues) (list : List (Option ℤ)) → k.level ≡ 0 → values ≡ slot_values sought s.min
+pub first_slot_value : (v : NodesView) (w : Window) (k : Key) (s : Span) (sought : Sought) (values : EndValues) (list : List (Option ℤ))
+    → k.level ≡ 0 → values ≡ slot_values sought s.min
     → IsReady v w k (Some s) → ServesList v w list → IsTrue sought.first → IsFirstIn list w (first_slot k) (end_slot k) values.first
 first_slot_value v w k s sought values list none is ready served on =
     let h : AreExtremes list (first_slot k) (end_slot k) s = list_extremes v w k s list ready served in
     let one : end_slot k ≡ first_slot k + 1 = one_slot k none in
     let value : values.first ≡ Some s.min = ap (λ x. x.first) is ∙ ap (λ b. cond b (Some s.min) None) on in
     let P : Option ℤ → Type 0 = λ o. IsFirstIn list w (first_slot k) (end_slot k) o in
-    subst P (sym value) (h.least.slot, h.least.low, h.least.high, itself list w h.least.slot s.min h.least.holds, λ i x from to. absurd (omega (arith, h.least.high, one)))
+    subst P (sym value) (
+      h.least.slot,
+      h.least.low,
+      h.least.high,
+      itself list w h.least.slot s.min h.least.holds,
+      λ i x from to. absurd (omega (arith, h.least.high, one)),
+    )
 
-pub last_slot_value : (v : NodesView) (w : Window) (k : Key) (s : Span) (sought : Sought) (values : EndValues) (list : List (Option ℤ)) → k.level ≡ 0 → values ≡ slot_values sought s.min
+pub last_slot_value : (v : NodesView) (w : Window) (k : Key) (s : Span) (sought : Sought) (values : EndValues) (list : List (Option ℤ))
+    → k.level ≡ 0 → values ≡ slot_values sought s.min
     → IsReady v w k (Some s) → ServesList v w list → IsTrue sought.last → IsLastIn list w (first_slot k) (end_slot k) values.last
 last_slot_value v w k s sought values list none is ready served on =
     let h : AreExtremes list (first_slot k) (end_slot k) s = list_extremes v w k s list ready served in
     let one : end_slot k ≡ first_slot k + 1 = one_slot k none in
     let value : values.last ≡ Some s.min = ap (λ x. x.last) is ∙ ap (λ b. cond b (Some s.min) None) on in
     let P : Option ℤ → Type 0 = λ o. IsLastIn list w (first_slot k) (end_slot k) o in
-    subst P (sym value) (h.least.slot, h.least.low, h.least.high, itself list w h.least.slot s.min h.least.holds, λ i x from to. absurd (omega (arith, h.least.low, one)))
+    subst P (sym value) (
+      h.least.slot,
+      h.least.low,
+      h.least.high,
+      itself list w h.least.slot s.min h.least.holds,
+      λ i x from to. absurd (omega (arith, h.least.low, one)),
+    )
 
 -- a range of one height: each of its values stands for the first and for the last one
-pub first_flat_value : FlatValues → (v : NodesView) (w : Window) (k : Key) (s : Span) (sought : Sought) (values : EndValues) (list : List (Option ℤ)) → IsFlat w.lo w.hi w.grid.h s
-    → values ≡ slot_values sought s.min → IsReady v w k (Some s) → ServesList v w list → IsTrue sought.first → IsFirstIn list w (first_slot k) (end_slot k) values.first
+pub first_flat_value : FlatValues → (v : NodesView) (w : Window) (k : Key) (s : Span) (sought : Sought) (values : EndValues)
+    (list : List (Option ℤ)) → IsFlat w.lo w.hi w.grid.h s
+    → values ≡ slot_values sought s.min → IsReady v w k (Some s) → ServesList v w list → IsTrue sought.first
+    → IsFirstIn list w (first_slot k) (end_slot k) values.first
 first_flat_value level v w k s sought values list flat is ready served on =
     let h : AreExtremes list (first_slot k) (end_slot k) s = list_extremes v w k s list ready served in
-    let m : FirstStored list (first_slot k) (end_slot k) = first_stored list (first_slot k) (end_slot k) h.least.slot s.min h.least.low h.least.high h.least.holds in
+    let m : FirstStored list (first_slot k) (end_slot k) = first_stored list (first_slot k)
+    (end_slot k) h.least.slot s.min h.least.low h.least.high h.least.holds in
     let value : values.first ≡ Some s.min = ap (λ x. x.first) is ∙ ap (λ b. cond b (Some s.min) None) on in
     let P : Option ℤ → Type 0 = λ o. IsFirstIn list w (first_slot k) (end_slot k) o in
     let same : height_of m.value w.lo w.hi w.grid.h ≡ height_of s.min w.lo w.hi w.grid.h =
     level w.lo w.hi m.value w.grid.h s flat (h.above m.slot m.value m.from m.to m.holds) (h.below m.slot m.value m.from m.to m.holds) in
     subst P (sym value) (m.slot, m.from, m.to, record { value = m.value; stored = m.holds; same = sym same }, m.clear)
 
-pub last_flat_value : FlatValues → (v : NodesView) (w : Window) (k : Key) (s : Span) (sought : Sought) (values : EndValues) (list : List (Option ℤ)) → IsFlat w.lo w.hi w.grid.h s
-    → values ≡ slot_values sought s.min → IsReady v w k (Some s) → ServesList v w list → IsTrue sought.last → IsLastIn list w (first_slot k) (end_slot k) values.last
+pub last_flat_value : FlatValues → (v : NodesView) (w : Window) (k : Key) (s : Span) (sought : Sought) (values : EndValues)
+    (list : List (Option ℤ)) → IsFlat w.lo w.hi w.grid.h s
+    → values ≡ slot_values sought s.min → IsReady v w k (Some s) → ServesList v w list → IsTrue sought.last
+    → IsLastIn list w (first_slot k) (end_slot k) values.last
 last_flat_value level v w k s sought values list flat is ready served on =
     let h : AreExtremes list (first_slot k) (end_slot k) s = list_extremes v w k s list ready served in
-    let m : LastStored list (first_slot k) (end_slot k) = last_stored list (first_slot k) (end_slot k) h.least.slot s.min h.least.low h.least.high h.least.holds in
+    let m : LastStored list (first_slot k) (end_slot k) = last_stored list (first_slot k)
+    (end_slot k) h.least.slot s.min h.least.low h.least.high h.least.holds in
     let value : values.last ≡ Some s.min = ap (λ x. x.last) is ∙ ap (λ b. cond b (Some s.min) None) on in
     let P : Option ℤ → Type 0 = λ o. IsLastIn list w (first_slot k) (end_slot k) o in
     let same : height_of m.value w.lo w.hi w.grid.h ≡ height_of s.min w.lo w.hi w.grid.h =
@@ -531,7 +592,8 @@ last_flat_value level v w k s sought values list flat is ready served on =
     subst P (sym value) (m.slot, m.from, m.to, record { value = m.value; stored = m.holds; same = sym same }, m.clear)
 
 -- What a walk finds: below a key with no span, where nothing is sought, at a slot, and below a key.
-pub follows_none : (v : NodesView) (w : Window) (c : ℕ) (k : Key) (s : Option Span) (sought : Sought) (items : List (Key × Coef)) (values : EndValues) → s ≡ None → IsReady v w k s
+pub follows_none : (v : NodesView) (w : Window) (c : ℕ) (k : Key) (s : Option Span) (sought : Sought) (items : List (Key × Coef))
+    (values : EndValues) → s ≡ None → IsReady v w k s
     → values.first ≡ None → values.last ≡ None → Follows v v w c k s sought items items values
 follows_none v w c k s sought items values none given first last =
     let P : Option Span → Type 0 = λ o. IsReady v w k o in
@@ -545,8 +607,10 @@ follows_none v w c k s sought items values none given first last =
       last = λ list served on some. absurd (cc);
     })
 
-pub follows_unsought : (v : NodesView) (w : Window) (c : ℕ) (k : Key) (s : Option Span) (sought : Sought) (items : List (Key × Coef)) (values : EndValues)
-    → (sought.first ≡ false) × (sought.last ≡ false) → values.first ≡ None → values.last ≡ None → Follows v v w c k s sought items items values
+pub follows_unsought : (v : NodesView) (w : Window) (c : ℕ) (k : Key) (s : Option Span) (sought : Sought) (items : List (Key × Coef))
+    (values : EndValues)
+    → (sought.first ≡ false) × (sought.last ≡ false) → values.first ≡ None → values.last ≡ None
+    → Follows v v w c k s sought items items values
 follows_unsought v w c k s sought items values off first last = record {
   below = inl refl;
   gathered = ends_unsought v w c k s sought items off;
@@ -555,7 +619,8 @@ follows_unsought v w c k s sought items values off first last = record {
   last = λ list served on some. (let none : sought.last ≡ false = off.1 in absurd (cc));
 }
 
-pub follows_slot : (v : NodesView) (w : Window) (c : ℕ) (k : Key) (s : Span) (o : Option Span) (sought : Sought) (items : List (Key × Coef)) (values : EndValues) → o ≡ Some s → IsReady v w k o
+pub follows_slot : (v : NodesView) (w : Window) (c : ℕ) (k : Key) (s : Span) (o : Option Span) (sought : Sought) (items : List (Key × Coef))
+    (values : EndValues) → o ≡ Some s → IsReady v w k o
     → k.level ≡ 0 → values ≡ slot_values sought s.min → Follows v v w c k o sought items items values
 follows_slot v w c k s o sought items values is given none set =
     let P : Option Span → Type 0 = λ o. IsReady v w k o in
@@ -569,7 +634,8 @@ follows_slot v w c k s o sought items values is given none set =
       last = λ list served on some. last_slot_value v w k s sought values list none set ready served on;
     })
 
-pub follows_flat : FlatBelow → FlatValues → (v : NodesView) (w : Window) (c : ℕ) (k : Key) (s : Span) (o : Option Span) (sought : Sought) (items : List (Key × Coef)) (values : EndValues) → o ≡ Some s
+pub follows_flat : FlatBelow → FlatValues → (v : NodesView) (w : Window) (c : ℕ) (k : Key) (s : Span) (o : Option Span) (sought : Sought)
+    (items : List (Key × Coef)) (values : EndValues) → o ≡ Some s
     → IsReady v w k o → IsFlat w.lo w.hi w.grid.h s → values ≡ slot_values sought s.min → Follows v v w c k o sought items items values
 follows_flat below level v w c k s o sought items values is given flat set =
     let P : Option Span → Type 0 = λ o. IsReady v w k o in
@@ -583,62 +649,92 @@ follows_flat below level v w c k s o sought items values is given flat set =
       last = λ list served on some. last_flat_value level v w k s sought values list flat set ready served on;
     })
 
-pub follows_halves : (v u t z : NodesView) (w : Window) (c : ℕ) (k l r : Key) (s : Span) (o : Option Span) (sought sl sr : Sought) (left right : Option Span) (coef : Coef)
+pub follows_halves : (v u t z : NodesView) (w : Window) (c : ℕ) (k l r : Key) (s : Span) (o : Option Span) (sought sl sr : Sought)
+    (left right : Option Span) (coef : Coef)
     (old one mid new : List (Key × Coef)) (lv rv values : EndValues)
     → l ≡ left_of k → r ≡ right_of k → sl ≡ sought_left sought right → sr ≡ sought_right sought left
-    → o ≡ Some s → IsReady v w k o → 1 ≤ k.level → IsInside w c k → (IsFlat w.lo w.hi w.grid.h s → ⊥) → IsTrue sought.first ⊎ IsTrue sought.last → ((S : Seen) → Serves v w S → MayHold S w c sought k)
+    → o ≡ Some s → IsReady v w k o → 1 ≤ k.level → IsInside w c k → (IsFlat w.lo w.hi w.grid.h s → ⊥)
+    → IsTrue sought.first ⊎ IsTrue sought.last → ((S : Seen) → Serves v w S → MayHold S w c sought k)
     → hull left right ≡ Some s → u.asked ≡ Some k → StaysSame v u → IsReady u w (left_of k) left → IsReady u w (right_of k) right
     → ((S : Seen) → Serves v w S → S.told k ≡ Some coef) → CanSplit coef → one ≡ old ++ (k, coef) ∷ []
     → Follows u t w c l left sl one mid lv → StaysSame v t → Follows t z w c r right sr mid new rv → values ≡ halves_values lv rv
     → Follows v z w c k o sought old new values
-follows_halves v u t z w c k l r s o sought sl sr left right coef old one mid new lv rv values el er esl esr is given low own uneven some hold whole asked same_u lready rready told good pushed g same_t h set =
+follows_halves v u t z w c k l r s o sought sl sr left right coef old one mid new lv rv values el er esl esr is given low own uneven some
+    hold whole asked same_u lready rready told good pushed g same_t h set =
     let P : Option Span → Type 0 = λ o. IsReady v w k o in
     let ready : IsReady v w k (Some s) = subst P is given in
     let Q : Option Span → Type 0 = λ o. Follows v z w c k o sought old new values in
     subst Q (sym is) (record {
       below = stays_below_at k l r v.asked u.asked t.asked z.asked low el er asked g.below h.below;
-      gathered = ends_both v u t w c k l r s sought sl sr left right coef old one mid new el er esl esr ready low own uneven some hold whole same_u lready rready told good pushed g.gathered same_t h.gathered;
+      gathered = ends_both v u t w c k l r s sought sl sr left right coef old one mid new el er esl esr ready low own uneven some hold whole
+          same_u lready rready told good pushed g.gathered same_t h.gathered;
       among = among_halves s left right lv rv values whole g.among h.among set;
       first = λ list served on some.
-          first_halves u w k l r left right sought sl sr lv rv values s list low el er esl esr whole set lready (serves_list_later v u w list same_u served) g.among on
+          first_halves u w k l r left right sought sl sr lv rv values s list low el er esl esr whole set lready
+          (serves_list_later v u w list same_u served) g.among on
           (g.first list (serves_list_later v u w list same_u served)) (h.first list (serves_list_later v t w list same_t served));
       last = λ list served on some.
-          last_halves u w k l r left right sought sl sr lv rv values s list low el er esl esr whole set rready (serves_list_later v u w list same_u served) h.among on
+          last_halves u w k l r left right sought sl sr lv rv values s list low el er esl esr whole set rready
+          (serves_list_later v u w list same_u served) h.among on
           (g.last list (serves_list_later v u w list same_u served)) (h.last list (serves_list_later v t w list same_t served));
     })
 
 -- the counts of reads on the way
-pub end_reads_asked : (k : Key) (sought : Sought) (s : Span) (r0 r1 : ℕ) (o : Option Span) → o ≡ Some s → 1 ≤ k.level → IsTrue sought.first ⊎ IsTrue sought.last → r1 ≤ r0 + 1 → r1 ≤ r0 + most_ends o sought k
+pub end_reads_asked : (k : Key) (sought : Sought) (s : Span) (r0 r1 : ℕ) (o : Option Span) → o ≡ Some s → 1 ≤ k.level
+    → IsTrue sought.first ⊎ IsTrue sought.last → r1 ≤ r0 + 1 → r1 ≤ r0 + most_ends o sought k
 end_reads_asked k sought s r0 r1 o is low some a =
-    omega (arith, a, some_count k.level (one_if sought.first + one_if sought.last) low (some_flag sought.first sought.last some), ap (λ o. most_ends o sought k) is)
+    omega (
+      arith,
+      a,
+      some_count k.level (one_if sought.first + one_if sought.last) low (some_flag sought.first sought.last some),
+      ap (λ o. most_ends o sought k) is,
+    )
 
-pub end_reads_first : (k l : Key) (sought sl : Sought) (s : Span) (left right : Option Span) (r0 r1 r2 : ℕ) (o : Option Span) → o ≡ Some s → 1 ≤ k.level → l ≡ left_of k → sl ≡ sought_left sought right
-    → IsTrue sought.first ⊎ IsTrue sought.last → hull left right ≡ Some s → r1 ≤ r0 + 1 → r2 ≤ r1 + most_ends left sl l → r2 ≤ r0 + most_ends o sought k
+pub end_reads_first : (k l : Key) (sought sl : Sought) (s : Span) (left right : Option Span) (r0 r1 r2 : ℕ) (o : Option Span) → o ≡ Some s
+    → 1 ≤ k.level → l ≡ left_of k → sl ≡ sought_left sought right
+    → IsTrue sought.first ⊎ IsTrue sought.last → hull left right ≡ Some s → r1 ≤ r0 + 1 → r2 ≤ r1 + most_ends left sl l
+    → r2 ≤ r0 + most_ends o sought k
 end_reads_first k l sought sl s left right r0 r1 r2 o is low el esl some whole a b =
-    omega (arith, a, b, most_ends_halves k l (right_of k) sought sl (sought_right sought left) s left right low el refl esl refl some whole, ap (λ o. most_ends o sought k) is)
+    omega (
+      arith,
+      a,
+      b,
+      most_ends_halves k l (right_of k) sought sl (sought_right sought left) s left right low el refl esl refl some whole,
+      ap (λ o. most_ends o sought k) is,
+    )
 
-pub end_reads_both : (k l r : Key) (sought sl sr : Sought) (s : Span) (left right : Option Span) (r0 r1 r2 r3 : ℕ) (o : Option Span) → o ≡ Some s → 1 ≤ k.level → l ≡ left_of k → r ≡ right_of k
+pub end_reads_both : (k l r : Key) (sought sl sr : Sought) (s : Span) (left right : Option Span) (r0 r1 r2 r3 : ℕ) (o : Option Span)
+    → o ≡ Some s → 1 ≤ k.level → l ≡ left_of k → r ≡ right_of k
     → sl ≡ sought_left sought right → sr ≡ sought_right sought left → IsTrue sought.first ⊎ IsTrue sought.last → hull left right ≡ Some s
     → r1 ≤ r0 + 1 → r2 ≤ r1 + most_ends left sl l → r3 ≤ r2 + most_ends right sr r → r3 ≤ r0 + most_ends o sought k
 end_reads_both k l r sought sl sr s left right r0 r1 r2 r3 o is low el er esl esr some whole a b d =
     omega (arith, a, b, d, most_ends_halves k l r sought sl sr s left right low el er esl esr some whole, ap (λ o. most_ends o sought k) is)
 
 -- the same where the first ask may read more blocks
-pub far_asked : (k : Key) (sought : Sought) (s : Span) (r0 r1 far : ℕ) (o : Option Span) → o ≡ Some s → 1 ≤ k.level → IsTrue sought.first ⊎ IsTrue sought.last → r1 ≤ r0 + far → r1 ≤ r0 + most_ends o sought k + far
+pub far_asked : (k : Key) (sought : Sought) (s : Span) (r0 r1 far : ℕ) (o : Option Span) → o ≡ Some s → 1 ≤ k.level
+    → IsTrue sought.first ⊎ IsTrue sought.last → r1 ≤ r0 + far → r1 ≤ r0 + most_ends o sought k + far
 far_asked k sought s r0 r1 far o is low some a = omega (arith, a)
 
-pub far_first : (k l : Key) (sought sl : Sought) (s : Span) (left right : Option Span) (r0 r1 r2 far : ℕ) (o : Option Span) → o ≡ Some s → 1 ≤ k.level → l ≡ left_of k → sl ≡ sought_left sought right
-    → IsTrue sought.first ⊎ IsTrue sought.last → hull left right ≡ Some s → r1 ≤ r0 + far → r2 ≤ r1 + most_ends left sl l → r2 ≤ r0 + most_ends o sought k + far
+pub far_first : (k l : Key) (sought sl : Sought) (s : Span) (left right : Option Span) (r0 r1 r2 far : ℕ) (o : Option Span) → o ≡ Some s
+    → 1 ≤ k.level → l ≡ left_of k → sl ≡ sought_left sought right
+    → IsTrue sought.first ⊎ IsTrue sought.last → hull left right ≡ Some s → r1 ≤ r0 + far → r2 ≤ r1 + most_ends left sl l
+    → r2 ≤ r0 + most_ends o sought k + far
 far_first k l sought sl s left right r0 r1 r2 far o is low el esl some whole a b =
     omega (arith, end_reads_first k l sought sl s left right (r0 + far) r1 r2 o is low el esl some whole (omega (arith, a)) b)
 
-pub far_both : (k l r : Key) (sought sl sr : Sought) (s : Span) (left right : Option Span) (r0 r1 r2 r3 far : ℕ) (o : Option Span) → o ≡ Some s → 1 ≤ k.level → l ≡ left_of k → r ≡ right_of k
+pub far_both : (k l r : Key) (sought sl sr : Sought) (s : Span) (left right : Option Span) (r0 r1 r2 r3 far : ℕ) (o : Option Span)
+    → o ≡ Some s → 1 ≤ k.level → l ≡ left_of k → r ≡ right_of k
     → sl ≡ sought_left sought right → sr ≡ sought_right sought left → IsTrue sought.first ⊎ IsTrue sought.last → hull left right ≡ Some s
     → r1 ≤ r0 + far → r2 ≤ r1 + most_ends left sl l → r3 ≤ r2 + most_ends right sr r → r3 ≤ r0 + most_ends o sought k + far
 far_both k l r sought sl sr s left right r0 r1 r2 r3 far o is low el er esl esr some whole a b d =
-    omega (arith, end_reads_both k l r sought sl sr s left right (r0 + far) r1 r2 r3 o is low el er esl esr some whole (omega (arith, a)) b d)
+    omega (
+      arith,
+      end_reads_both k l r sought sl sr s left right (r0 + far) r1 r2 r3 o is low el er esl esr some whole
+          (omega (arith, a)) b d,
+    )
 
-pub sought_wanted_as : (v : NodesView) (w : Window) (c : ℕ) (k : Key) (s : Span) (o : Option Span) (sought : Sought) → o ≡ Some s → IsReady v w k o → 1 ≤ k.level → IsInside w c k
+pub sought_wanted_as : (v : NodesView) (w : Window) (c : ℕ) (k : Key) (s : Span) (o : Option Span) (sought : Sought) → o ≡ Some s
+    → IsReady v w k o → 1 ≤ k.level → IsInside w c k
     → (IsFlat w.lo w.hi w.grid.h s → ⊥) → IsTrue sought.first ⊎ IsTrue sought.last → ((S : Seen) → Serves v w S → MayHold S w c sought k)
     → (S : Seen) → Serves v w S → IsWanted S w.axis w.grid w.lo w.hi k
 sought_wanted_as v w c k s o sought is given low own uneven some hold =

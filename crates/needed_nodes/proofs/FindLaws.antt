@@ -1,4 +1,5 @@
-use Rattle.std.proofs.Common.{ℕ, zero, suc, ℤ, ◌≡◌, ◌+◌, ◌-◌, ◌*◌, ◌^◌, ◌≤◌, ◌⊎◌, inl, inr, List, [], ◌∷◌, ◌++◌, length, refl, sym, ap, subst, arith}
+use Rattle.std.proofs.Common.{ℕ, zero, suc, ℤ, ◌≡◌, ◌+◌, ◌-◌, ◌*◌, ◌^◌, ◌≤◌, ◌⊎◌, inl, inr, List, [], ◌∷◌, ◌++◌, length, refl, sym, ap}
+use Rattle.std.proofs.Common.{subst, arith}
 use Rattle.std.specs.Prelude.{Option, Some, None, slice_set, ⊤}
 use Rattle.om3_coeff.specs.declared.key.Key.{Key}
 use Rattle.om3_coeff.specs.declared.span.Span.{Span}
@@ -22,7 +23,8 @@ use Rattle.needed_nodes.proofs.RankLaws.{rank_rises, rank_order, outside_below, 
 use Rattle.needed_nodes.proofs.ServeLaws.{serves_later, cut_wanted, clear_slot, clear_key, stays_below_at, serves_list_later, node_of}
 use Rattle.needed_nodes.proofs.GatherLaws.{gathers_nothing}
 use Rattle.needed_nodes.proofs.BlockLaws.{hold_blocks_on, hold_blocks_enter, hold_ends_on, hold_ends_enter, hold_spans_on, hold_spans_enter}
-use Rattle.needed_nodes.proofs.StepLaws.{list_extremes, list_none, Halves, gathers_halves, halves_apart, left_apart, right_apart, count_halves, some_count, through_halves}
+use Rattle.needed_nodes.proofs.StepLaws.{list_extremes, list_none, Halves, gathers_halves, halves_apart, left_apart, right_apart}
+use Rattle.needed_nodes.proofs.StepLaws.{count_halves, some_count, through_halves}
 
 -- a cut key has a level, and so has a coefficient
 pub cut_low : (w : Window) (k : Key) → IsCutKey w k → 1 ≤ k.level
@@ -87,7 +89,8 @@ no_cuts_outside v w k Kind items out =
     gathers_nothing v w (IsCutBelow w k) Kind (most_cut w k) items
     (λ S served b node part seen kind. omega (arith, (outside_below w k b part.below out).even, part.cut))
 
-pub no_cuts_inside : (v : NodesView) (w : Window) (c : ℕ) (k : Key) (Kind : Seen → Key → Type 0) (items : List (Key × Coef)) → IsInside w c k
+pub no_cuts_inside : (v : NodesView) (w : Window) (c : ℕ) (k : Key) (Kind : Seen → Key → Type 0) (items : List (Key × Coef))
+    → IsInside w c k
     → Gathered v w (IsCutBelow w k) Kind (most_cut w k) items items
 no_cuts_inside v w c k Kind items own =
     gathers_nothing v w (IsCutBelow w k) Kind (most_cut w k) items
@@ -112,7 +115,8 @@ cut_halves v w k low cut = record {
 }
 
 -- the cut keys of a cut key's halves, and the key
-pub cuts_both : (v u t : NodesView) (w : Window) (k l r : Key) (s : Span) (c : Coef) (old one mid new : List (Key × Coef)) → l ≡ left_of k → r ≡ right_of k
+pub cuts_both : (v u t : NodesView) (w : Window) (k l r : Key) (s : Span) (c : Coef) (old one mid new : List (Key × Coef)) → l ≡ left_of k
+    → r ≡ right_of k
     → IsCutKey w k → IsReady v w k (Some s) → ((S : Seen) → Serves v w S → S.told k ≡ Some c) → CanSplit c → one ≡ old ++ (k, c) ∷ []
     → StaysSame v u → Gathered u w (IsCutBelow w l) (λ S b. ⊤) (most_cut w l) one mid
     → StaysSame v t → Gathered t w (IsCutBelow w r) (λ S b. ⊤) (most_cut w r) mid new
@@ -133,11 +137,13 @@ pub ends_none : (v : NodesView) (w : Window) (k : Key) (table : List (Option Blo
 ends_none v w k table ready S served =
     hold_ends_on S w (first_slot k) (end_slot k) table (λ c i below is from to. clear_slot S w k i ready.key (ready.known S served) from to)
 
-pub ends_outside : (w : Window) (k : Key) (table : List (Option Blocks)) → IsOutside w k → (S : Seen) → HoldEnds S w (first_slot k) table → HoldEnds S w (end_slot k) table
+pub ends_outside : (w : Window) (k : Key) (table : List (Option Blocks)) → IsOutside w k → (S : Seen) → HoldEnds S w (first_slot k) table
+    → HoldEnds S w (end_slot k) table
 ends_outside w k table out S =
     hold_ends_on S w (first_slot k) (end_slot k) table (λ c i below is from to. absurd (outside_rank w k c i out from to below is))
 
-pub blocks_pass : (w : Window) (k : Key) (table : List (Option Blocks)) → HoldBlocks w (first_slot k) table → HoldBlocks w (end_slot k) table
+pub blocks_pass : (w : Window) (k : Key) (table : List (Option Blocks)) → HoldBlocks w (first_slot k) table
+    → HoldBlocks w (end_slot k) table
 blocks_pass w k table = hold_blocks_on w (first_slot k) (end_slot k) table (omega (arith, some_slot k))
 
 pub spans_none : (v : NodesView) (w : Window) (k : Key) (table : List (Option Blocks)) → IsReady v w k None
@@ -153,7 +159,8 @@ spans_outside w k table out list =
     (λ c i x below is from to holds. outside_rank w k c i out from to below is)
 
 -- a block, with the table under another name
-pub blocks_entered : (v : NodesView) (w : Window) (c : ℕ) (k : Key) (s : Span) (table new : List (Option Blocks)) → IsReady v w k (Some s) → IsTopmost w k
+pub blocks_entered : (v : NodesView) (w : Window) (c : ℕ) (k : Key) (s : Span) (table new : List (Option Blocks)) → IsReady v w k (Some s)
+    → IsTopmost w k
     → IsInside w c k → length table ≡ w.grid.w → new ≡ slice_set table c (Some (with_block (entry table c) (record { key = k; span = s })))
     → HoldBlocks w (first_slot k) table → HoldBlocks w (end_slot k) new
 blocks_entered v w c k s table new ready top own sized is h =
@@ -178,7 +185,8 @@ spans_entered v w c k s table new ready own sized is list served h =
     subst P (sym is) (hold_spans_enter list w c table b sized own (list_extremes v w k s list ready served) h)
 
 -- What a walk finds: below a key with no span, outside the columns, within one, and below a cut key.
-pub finds_none : (v : NodesView) (w : Window) (k : Key) (s : Option Span) (items : List (Key × Coef)) (table : List (Option Blocks)) → s ≡ None → IsReady v w k s
+pub finds_none : (v : NodesView) (w : Window) (k : Key) (s : Option Span) (items : List (Key × Coef)) (table : List (Option Blocks))
+    → s ≡ None → IsReady v w k s
     → Finds v v w k items items table table
 finds_none v w k s items table none given =
     let P : Option Span → Type 0 = λ o. IsReady v w k o in
@@ -191,7 +199,8 @@ finds_none v w k s items table none given =
       spans = spans_none v w k table ready;
     }
 
-pub finds_outside : (v : NodesView) (w : Window) (k : Key) (items : List (Key × Coef)) (table : List (Option Blocks)) → IsOutside w k → Finds v v w k items items table table
+pub finds_outside : (v : NodesView) (w : Window) (k : Key) (items : List (Key × Coef)) (table : List (Option Blocks)) → IsOutside w k
+    → Finds v v w k items items table table
 finds_outside v w k items table out = record {
   below = inl refl;
   cuts = no_cuts_outside v w k (λ S b. ⊤) items out;
@@ -200,8 +209,10 @@ finds_outside v w k items table out = record {
   spans = λ list served. spans_outside w k table out list;
 }
 
-pub finds_inside : (v : NodesView) (w : Window) (c : ℕ) (k : Key) (s : Span) (o : Option Span) (items : List (Key × Coef)) (table new : List (Option Blocks)) → o ≡ Some s → IsReady v w k o
-    → IsTopmost w k → IsInside w c k → length table ≡ w.grid.w → new ≡ slice_set table c (Some (with_block (entry table c) (record { key = k; span = s })))
+pub finds_inside : (v : NodesView) (w : Window) (c : ℕ) (k : Key) (s : Span) (o : Option Span) (items : List (Key × Coef))
+    (table new : List (Option Blocks)) → o ≡ Some s → IsReady v w k o
+    → IsTopmost w k → IsInside w c k → length table ≡ w.grid.w
+    → new ≡ slice_set table c (Some (with_block (entry table c) (record { key = k; span = s })))
     → Finds v v w k items items table new
 finds_inside v w c k s o items table new is given top own sized set =
     let P : Option Span → Type 0 = λ o. IsReady v w k o in
@@ -214,7 +225,8 @@ finds_inside v w c k s o items table new is given top own sized set =
       spans = spans_entered v w c k s table new ready own sized set;
     }
 
-pub finds_halves : (v u t z : NodesView) (w : Window) (k l r : Key) (s : Span) (o : Option Span) (c : Coef) (old one mid new : List (Key × Coef)) (table first second : List (Option Blocks))
+pub finds_halves : (v u t z : NodesView) (w : Window) (k l r : Key) (s : Span) (o : Option Span) (c : Coef)
+    (old one mid new : List (Key × Coef)) (table first second : List (Option Blocks))
     → l ≡ left_of k → r ≡ right_of k → IsCutKey w k → o ≡ Some s → IsReady v w k o
     → ((S : Seen) → Serves v w S → S.told k ≡ Some c) → CanSplit c → one ≡ old ++ (k, c) ∷ [] → u.asked ≡ Some k
     → StaysSame v u → Finds u t w l one mid table first → StaysSame v t → Finds t z w r mid new first second
@@ -237,14 +249,17 @@ finds_halves v u t z w k l r s o c old one mid new table first second el er cut 
 pub reads_asked : (w : Window) (k : Key) (r0 r1 : ℕ) → IsCutKey w k → r1 ≤ r0 + 1 → r1 ≤ r0 + most_cut w k
 reads_asked w k r0 r1 cut a = omega (arith, a, most_some w k cut)
 
-pub reads_first : (w : Window) (k l : Key) (r0 r1 r2 : ℕ) → IsCutKey w k → l ≡ left_of k → r1 ≤ r0 + 1 → r2 ≤ r1 + most_cut w l → r2 ≤ r0 + most_cut w k
+pub reads_first : (w : Window) (k l : Key) (r0 r1 r2 : ℕ) → IsCutKey w k → l ≡ left_of k → r1 ≤ r0 + 1 → r2 ≤ r1 + most_cut w l
+    → r2 ≤ r0 + most_cut w k
 reads_first w k l r0 r1 r2 cut el a b = omega (arith, a, b, most_parts w k l (right_of k) el refl cut)
 
-pub reads_both : (w : Window) (k l r : Key) (r0 r1 r2 r3 : ℕ) → IsCutKey w k → l ≡ left_of k → r ≡ right_of k → r1 ≤ r0 + 1 → r2 ≤ r1 + most_cut w l → r3 ≤ r2 + most_cut w r
+pub reads_both : (w : Window) (k l r : Key) (r0 r1 r2 r3 : ℕ) → IsCutKey w k → l ≡ left_of k → r ≡ right_of k → r1 ≤ r0 + 1
+    → r2 ≤ r1 + most_cut w l → r3 ≤ r2 + most_cut w r
     → r3 ≤ r0 + most_cut w k
 reads_both w k l r r0 r1 r2 r3 cut el er a b d = omega (arith, a, b, d, most_parts w k l r el er cut)
 
-pub cut_wanted_as : (v : NodesView) (w : Window) (k : Key) (s : Span) (o : Option Span) → o ≡ Some s → IsReady v w k o → IsCutKey w k → (S : Seen) → Serves v w S → IsWanted S w.axis w.grid w.lo w.hi k
+pub cut_wanted_as : (v : NodesView) (w : Window) (k : Key) (s : Span) (o : Option Span) → o ≡ Some s → IsReady v w k o → IsCutKey w k
+    → (S : Seen) → Serves v w S → IsWanted S w.axis w.grid w.lo w.hi k
 cut_wanted_as v w k s o is ready cut S served =
     let P : Option Span → Type 0 = λ o. shown_by S w k ≡ Some o in
     cut_wanted S w k s (node_of v w k o ready (cut_low w k cut)) (subst P is (ready.known S served)) cut

@@ -1,6 +1,8 @@
-use Rattle.std.proofs.Common.{ℕ, zero, suc, ◌≡◌, ◌≢◌, ◌+◌, ◌<◌, ◌≤◌, ◌⊎◌, inl, inr, List, [], ◌∷◌, ◌++◌, length, get_or, refl, sym, ◌∙◌, ap, subst, arith, append_assoc, length-append, le_refl}
+use Rattle.std.proofs.Common.{ℕ, zero, suc, ◌≡◌, ◌≢◌, ◌+◌, ◌<◌, ◌≤◌, ◌⊎◌, inl, inr, List, [], ◌∷◌, ◌++◌, length, get_or, refl, sym, ◌∙◌, ap}
+use Rattle.std.proofs.Common.{subst, arith, append_assoc, length-append, le_refl}
 use Rattle.std.proofs.lemmas.List.{append-nil, map-append}
-use Rattle.std.proofs.lemmas.List.Elements.{All-nil, All-head, All-tail, All-append, All-weaker, Contains-append_left, Contains-append_right, Contains-push}
+use Rattle.std.proofs.lemmas.List.Elements.{All-nil, All-head, All-tail, All-append, All-weaker, Contains-append_left}
+use Rattle.std.proofs.lemmas.List.Elements.{Contains-append_right, Contains-push}
 use Rattle.std.specs.Prelude.{All, Contains}
 use Rattle.om3_coeff.specs.declared.key.Key.{Key}
 use Rattle.om3_coeff.specs.declared.coef.Coef.{Coef}
@@ -64,7 +66,8 @@ gathers_one v w Kind key c items node good told = record {
 
 -- what was told of the keys of a part is told of them as keys of another kind
 told_as : (S : Seen) (w : Window) (Part : Key → Type 0) (Kind Kind' : Seen → Key → Type 0) (items : List (Key × Coef))
-    → ((k : Key) → IsNode (height w.axis.slots) k → Part k → IsSeenBy S w k → Kind S k → Kind' S k) → All (λ e. IsNode (height w.axis.slots) e.0) items → All (λ e. Part e.0) items
+    → ((k : Key) → IsNode (height w.axis.slots) k → Part k → IsSeenBy S w k → Kind S k → Kind' S k)
+    → All (λ e. IsNode (height w.axis.slots) e.0) items → All (λ e. Part e.0) items
     → All (IsToldBy S w Kind) items → All (IsToldBy S w Kind') items
 told_as S w Part Kind Kind' items kinds nodes inside told k d less =
     let t : IsToldBy S w Kind (get_or items k d) = told k d less in
@@ -87,9 +90,11 @@ pub record Joins (v : NodesView) (w : Window) (Part₁ Part₂ Part : Key → Ty
   pub second : (k : Key) → Part₂ k → Part k
   pub first_kind : (S : Seen) → Serves v w S → (k : Key) → IsNode (height w.axis.slots) k → Part₁ k → IsSeenBy S w k → Kind₁ S k → Kind S k
   pub second_kind : (S : Seen) → Serves v w S → (k : Key) → IsNode (height w.axis.slots) k → Part₂ k → IsSeenBy S w k → Kind₂ S k → Kind S k
-  pub covers : (S : Seen) → Serves v w S → (k : Key) → IsNode (height w.axis.slots) k → Part k → IsSeenBy S w k → Kind S k → (Part₁ k × Kind₁ S k) ⊎ (Part₂ k × Kind₂ S k)
+  pub covers : (S : Seen) → Serves v w S → (k : Key) → IsNode (height w.axis.slots) k → Part k → IsSeenBy S w k → Kind S k
+      → (Part₁ k × Kind₁ S k) ⊎ (Part₂ k × Kind₂ S k)
 
-pub gathers_join : (v : NodesView) (w : Window) (Part₁ Part₂ Part : Key → Type 0) (Kind₁ Kind₂ Kind : Seen → Key → Type 0) (m n most : ℕ) (old mid new : List (Key × Coef))
+pub gathers_join : (v : NodesView) (w : Window) (Part₁ Part₂ Part : Key → Type 0) (Kind₁ Kind₂ Kind : Seen → Key
+    → Type 0) (m n most : ℕ) (old mid new : List (Key × Coef))
     → Joins v w Part₁ Part₂ Part Kind₁ Kind₂ Kind → m + n ≤ most → Gathered v w Part₁ Kind₁ m old mid → Gathered v w Part₂ Kind₂ n mid new
     → Gathered v w Part Kind most old new
 gathers_join v w Part₁ Part₂ Part Kind₁ Kind₂ Kind m n most old mid new joins few g h = record {
@@ -115,7 +120,8 @@ gathers_join v w Part₁ Part₂ Part Kind₁ Kind₂ Kind m n most old mid new 
 }
 
 -- what was gathered later was gathered of the nodes as they were before
-pub gathers_earlier : (v u : NodesView) (w : Window) (Part : Key → Type 0) (Kind : Seen → Key → Type 0) (most : ℕ) (old new : List (Key × Coef))
+pub gathers_earlier : (v u : NodesView) (w : Window) (Part : Key → Type 0) (Kind : Seen → Key
+    → Type 0) (most : ℕ) (old new : List (Key × Coef))
     → StaysSame v u → Gathered u w Part Kind most old new → Gathered v w Part Kind most old new
 gathers_earlier v u w Part Kind most old new same g = record {
   more = g.more;
@@ -130,7 +136,8 @@ gathers_earlier v u w Part Kind most old new same g = record {
 }
 
 -- the same keys as those of another part and kind
-pub gathers_as : (v : NodesView) (w : Window) (Part Part' : Key → Type 0) (Kind Kind' : Seen → Key → Type 0) (m most : ℕ) (old new : List (Key × Coef))
+pub gathers_as : (v : NodesView) (w : Window) (Part Part' : Key → Type 0) (Kind Kind' : Seen → Key
+    → Type 0) (m most : ℕ) (old new : List (Key × Coef))
     → ((k : Key) → Part k → Part' k)
     → ((S : Seen) → Serves v w S → (k : Key) → Part k → IsSeenBy S w k → Kind S k → Kind' S k)
     → ((S : Seen) → Serves v w S → (k : Key) → IsNode (height w.axis.slots) k → Part' k → IsSeenBy S w k → Kind' S k → Part k × Kind S k)
@@ -143,7 +150,8 @@ gathers_as v w Part Part' Kind Kind' m most old new parts kinds covers few g = r
   good = g.good;
   apart = g.apart;
   few = omega (arith, g.few);
-  told = λ S served. told_as S w Part Kind Kind' g.more (λ k node part seen kind. kinds S served k part seen kind) g.nodes g.inside (g.told S served);
+  told = λ S served. told_as S w Part Kind Kind' g.more (λ k node part seen kind. kinds S served k part seen kind) g.nodes g.inside
+      (g.told S served);
   all = λ S served k node part seen kind.
       let back : Part k × Kind S k = covers S served k node part seen kind in g.all S served k node back.0 seen back.1;
 }

@@ -90,9 +90,12 @@ below_cases w k low h =
     by_lt k.level w.level
     (λ less.
     by_lt (first_slot k) (end_slot (left_of w))
-    (λ first. in_left (nests (left_of w) k (first_slot k) (omega arith) (omega (arith, h.from, left_first w low)) first (le_refl (first_slot k)) (some_slot k)))
-    (λ second. in_right (nests (right_of w) k (first_slot k) (omega arith) second (omega (arith, right_end w low, h.to, some_slot k)) (le_refl (first_slot k)) (some_slot k))))
-    (λ more. at_key (one_level w k (first_slot k) (omega (arith, h.lower)) h.from (omega (arith, h.to, some_slot k)) (le_refl (first_slot k)) (some_slot k)))
+    (λ first. in_left (nests (left_of w) k (first_slot k) (omega arith) (omega (arith, h.from, left_first w low)) first
+    (le_refl (first_slot k)) (some_slot k)))
+    (λ second. in_right (nests (right_of w) k (first_slot k) (omega arith) second (omega (arith, right_end w low, h.to, some_slot k))
+    (le_refl (first_slot k)) (some_slot k))))
+    (λ more. at_key (one_level w k (first_slot k) (omega (arith, h.lower)) h.from (omega (arith, h.to, some_slot k))
+    (le_refl (first_slot k)) (some_slot k)))
 
 -- a key that lies below another one has it above it in the tree
 quotient : (q d r : ℕ) → q * d ≤ r → r + 1 ≤ (q + 1) * d → r / d ≡ q
@@ -107,7 +110,8 @@ at_or_above w k h =
     let from : first_slot w ≡ (w.index * d) * p = wide_first w.index (2 ^ w.level) d p width in
     let to : end_slot w ≡ ((w.index + 1) * d) * p = wide_first (w.index + 1) (2 ^ w.level) d p width in
     let parts : (w.index * d ≤ k.index) × (k.index + 1 ≤ (w.index + 1) * d) =
-    nest_numbers w.index d p k.index (first_slot k) (omega (arith, from, h.from)) (omega (arith, to, h.to, some_slot k)) (le_refl (first_slot k)) (some_slot k) in
+    nest_numbers w.index d p k.index (first_slot k) (omega (arith, from, h.from)) (omega (arith, to, h.to, some_slot k))
+    (le_refl (first_slot k)) (some_slot k) in
     record { higher = h.lower; holds = quotient w.index d k.index parts.0 parts.1 }
 
 -- a slot of a key's range, as a key

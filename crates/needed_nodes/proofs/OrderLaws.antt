@@ -1,4 +1,5 @@
-use Rattle.std.proofs.Common.{ℕ, zero, suc, ◌≡◌, ◌≢◌, ◌+◌, ◌<◌, ◌≤◌, inl, inr, Bool, true, false, cond, List, [], ◌∷◌, get_or, refl, sym, ◌∙◌, ap, arith}
+use Rattle.std.proofs.Common.{ℕ, zero, suc, ◌≡◌, ◌≢◌, ◌+◌, ◌<◌, ◌≤◌, inl, inr, Bool, true, false, cond, List, [], ◌∷◌, get_or, refl, sym}
+use Rattle.std.proofs.Common.{◌∙◌, ap, arith}
 use Rattle.std.proofs.lemmas.Bool.{cases_eq}
 use Rattle.std.proofs.lemmas.Bool.Decides.{nat_tests}
 use Rattle.std.proofs.lemmas.List.Elements.{All-head, All-tail}
@@ -82,7 +83,8 @@ apart_count m (e ∷ es) small apart =
     ]
 
 -- a list of keys that are counted once at most and whose numbers don't fall is in order
-rises_on : (e : Key × Coef) (es : List (Key × Coef)) → IsNonDecreasingBy (λ e. order_number e.0) (e ∷ es) → IsNonDecreasingBy (λ e. order_number e.0) es
+rises_on : (e : Key × Coef) (es : List (Key × Coef)) → IsNonDecreasingBy (λ e. order_number e.0) (e ∷ es)
+    → IsNonDecreasingBy (λ e. order_number e.0) es
 rises_on e es rises i j d le less = rises (suc i) (suc j) d (omega arith) (omega arith)
 
 count_rest : (m : ℕ) (e : Key × Coef) (es : List (Key × Coef)) → count_of m (e ∷ es) ≤ 1 → count_of m es ≤ 1
@@ -91,7 +93,8 @@ count_rest m e es few = elim (cases_eq (order_number e.0) m) [
   | inr other ↦ omega (arith, few, count_no m e es other)
 ]
 
-ordered : (es : List (Key × Coef)) → AreSmallKeys es → IsNonDecreasingBy (λ e. order_number e.0) es → ((m : ℕ) → count_of m es ≤ 1) → AreInOrder es
+ordered : (es : List (Key × Coef)) → AreSmallKeys es → IsNonDecreasingBy (λ e. order_number e.0) es → ((m : ℕ) → count_of m es ≤ 1)
+    → AreInOrder es
 ordered [] small rises once = tt
 ordered (e ∷ es) small rises once =
     let first : IsSmallKey e.0 = All-head (λ e. IsSmallKey e.0) e es small in
@@ -105,7 +108,8 @@ ordered (e ∷ es) small rises once =
       ordered es rest (rises_on e es rises) (λ m. count_rest m e es (once m)),
     )
 
-pub sorted_in_order : (es sorted : List (Key × Coef)) → AreSmallKeys es → AreApart es → IsPermutation es sorted → IsNonDecreasingBy (λ e. order_number e.0) sorted → AreInOrder sorted
+pub sorted_in_order : (es sorted : List (Key × Coef)) → AreSmallKeys es → AreApart es → IsPermutation es sorted
+    → IsNonDecreasingBy (λ e. order_number e.0) sorted → AreInOrder sorted
 sorted_in_order es sorted small apart moved rises =
     ordered sorted (All-permutation (λ e. IsSmallKey e.0) es sorted moved small) rises
     (λ m. omega (arith, apart_count m es small apart, sum_by-IsPermutation (λ e. cond (has_number m e) 1 0) es sorted moved))

@@ -20,13 +20,15 @@ choose R (r ∷ rs) each =
     let rest : (es : List Row) × ArePairs R rs es = choose R rs (λ k d less. each (suc k) d (omega arith)) in
     (first.0 ∷ rest.0, (first.1, rest.1))
 
-pub pairs_map : {X : Type 0} (R : Row → Row → Type 0) (f : Row → X) → ((r e : Row) → R r e → f r ≡ f e) → (rows es : List Row) → ArePairs R rows es → map f rows ≡ map f es
+pub pairs_map : {X : Type 0} (R : Row → Row → Type 0) (f : Row → X) → ((r e : Row) → R r e → f r ≡ f e) → (rows es : List Row)
+    → ArePairs R rows es → map f rows ≡ map f es
 pairs_map {X} R f same [] [] h = refl
 pairs_map {X} R f same [] (e ∷ es) h = absurd h
 pairs_map {X} R f same (r ∷ rs) [] h = absurd h
 pairs_map {X} R f same (r ∷ rs) (e ∷ es) h = ap₂ (λ x xs. x ∷ xs) (same r e h.0) (pairs_map R f same rs es h.1)
 
-pub pairs_all : (R : Row → Row → Type 0) (Q : Row → Type 0) → ((r e : Row) → R r e → Q e) → (rows es : List Row) → ArePairs R rows es → All Q es
+pub pairs_all : (R : Row → Row → Type 0) (Q : Row → Type 0) → ((r e : Row) → R r e → Q e) → (rows es : List Row) → ArePairs R rows es
+    → All Q es
 pairs_all R Q each [] [] h = All-nil Q
 pairs_all R Q each [] (e ∷ es) h = absurd h
 pairs_all R Q each (r ∷ rs) [] h = absurd h
@@ -38,14 +40,16 @@ pairs_length R [] (e ∷ es) h = absurd h
 pairs_length R (r ∷ rs) [] h = absurd h
 pairs_length R (r ∷ rs) (e ∷ es) h = ap suc (pairs_length R rs es h.1)
 
-pair_at : (R : Row → Row → Type 0) (rows es : List Row) (i : ℕ) (d : Row) → ArePairs R rows es → i < length rows → R (get_or rows i d) (get_or es i d)
+pair_at : (R : Row → Row → Type 0) (rows es : List Row) (i : ℕ) (d : Row) → ArePairs R rows es → i < length rows
+    → R (get_or rows i d) (get_or es i d)
 pair_at R [] [] i d h less = absurd (omega arith)
 pair_at R [] (e ∷ es) i d h less = absurd h
 pair_at R (r ∷ rs) [] i d h less = absurd h
 pair_at R (r ∷ rs) (e ∷ es) zero d h less = h.0
 pair_at R (r ∷ rs) (e ∷ es) (suc i) d h less = pair_at R rs es i d h.1 (omega arith)
 
-pub pairs_rise : (R : Row → Row → Type 0) → ((r e : Row) → R r e → r.column ≡ e.column) → (rows es : List Row) → ArePairs R rows es → AreRising rows → AreRising es
+pub pairs_rise : (R : Row → Row → Type 0) → ((r e : Row) → R r e → r.column ≡ e.column) → (rows es : List Row) → ArePairs R rows es
+    → AreRising rows → AreRising es
 pairs_rise R same rows es h rising i j d less short =
     let size : length rows ≡ length es = pairs_length R rows es h in
     omega (

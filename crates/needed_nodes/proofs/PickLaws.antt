@@ -1,4 +1,5 @@
-use Rattle.std.proofs.Common.{ℕ, zero, suc, ℤ, ◌≡◌, ◌+◌, ◌-◌, ◌<◌, ◌⊎◌, inl, inr, Bool, true, false, cond, List, [], ◌∷◌, length, refl, sym, ◌∙◌, ap, subst, arith}
+use Rattle.std.proofs.Common.{ℕ, zero, suc, ℤ, ◌≡◌, ◌+◌, ◌-◌, ◌<◌, ◌⊎◌, inl, inr, Bool, true, false, cond, List, [], ◌∷◌, length, refl, sym}
+use Rattle.std.proofs.Common.{◌∙◌, ap, subst, arith}
 use Rattle.std.proofs.lemmas.Option.{same_Some}
 use Rattle.std.proofs.lemmas.List.Elements.{All-nil, All-cons, Contains-append_right}
 use Rattle.std.specs.Prelude.{Option, Some, None, All, Contains, slice_get}
@@ -31,7 +32,8 @@ same_value : (u v : ℤ) → Some (Some u) ≡ Some (Some v) → u ≡ v
 same_value u v e = same_Some u v (same_Some (Some u) (Some v) e)
 
 -- what holds of each value in such a slot
-pub picked_all : (Q : ℤ → Type 0) (p : ℕ → Bool) (n : ℕ) (xs : List (Option ℤ)) → ((i : ℕ) (v : ℤ) → Holds xs i v → p (n + i) ≡ true → Q v) → All Q (picked p n xs)
+pub picked_all : (Q : ℤ → Type 0) (p : ℕ → Bool) (n : ℕ) (xs : List (Option ℤ)) → ((i : ℕ) (v : ℤ) → Holds xs i v → p (n + i) ≡ true → Q v)
+    → All Q (picked p n xs)
 picked_all Q p n [] each = All-nil Q
 picked_all Q p n (None ∷ xs) each = picked_all Q p (n + 1) xs (λ i v holds on. each (suc i) v holds (later_at p n i on))
 picked_all Q p n (Some u ∷ xs) each =
@@ -43,7 +45,8 @@ picked_all Q p n (Some u ∷ xs) each =
     ]
 
 -- a value in such a slot is among them
-pub picked_among : (p : ℕ → Bool) (n : ℕ) (xs : List (Option ℤ)) (i : ℕ) (v : ℤ) → Holds xs i v → p (n + i) ≡ true → Contains (picked p n xs) v
+pub picked_among : (p : ℕ → Bool) (n : ℕ) (xs : List (Option ℤ)) (i : ℕ) (v : ℤ) → Holds xs i v → p (n + i) ≡ true
+    → Contains (picked p n xs) v
 picked_among p n [] i v holds on = absurd (cc)
 picked_among p n (None ∷ xs) zero v holds on = absurd (cc)
 picked_among p n (None ∷ xs) (suc i) v holds on = picked_among p (n + 1) xs i v holds (at_later p n i on)
@@ -60,7 +63,8 @@ picked_among p n (Some u ∷ xs) (suc i) v holds on =
       | inr unset ↦ subst P (sym unset) rest
     ]
 
-pub picked_none : (p : ℕ → Bool) (n : ℕ) (xs : List (Option ℤ)) → ((i : ℕ) (v : ℤ) → Holds xs i v → p (n + i) ≡ true → ⊥) → picked p n xs ≡ []
+pub picked_none : (p : ℕ → Bool) (n : ℕ) (xs : List (Option ℤ)) → ((i : ℕ) (v : ℤ) → Holds xs i v → p (n + i) ≡ true → ⊥)
+    → picked p n xs ≡ []
 picked_none p n [] none = refl
 picked_none p n (None ∷ xs) none = picked_none p (n + 1) xs (λ i v holds on. none (suc i) v holds (later_at p n i on))
 picked_none p n (Some u ∷ xs) none =
@@ -76,12 +80,15 @@ pub picked_first : (p : ℕ → Bool) (n : ℕ) (xs : List (Option ℤ)) (i : �
 picked_first p n [] i v holds on none = absurd (cc)
 picked_first p n (None ∷ xs) zero v holds on none = absurd (cc)
 picked_first p n (None ∷ xs) (suc i) v holds on none =
-    picked_first p (n + 1) xs i v holds (at_later p n i on) (λ j u before there set. none (suc j) u (omega arith) there (later_at p n j set))
+    picked_first p (n + 1) xs i v holds (at_later p n i on)
+    (λ j u before there set. none (suc j) u (omega arith) there (later_at p n j set))
 picked_first p n (Some u ∷ xs) zero v holds on none =
-    ap (λ b. slice_get (cond b (u ∷ picked p (n + 1) xs) (picked p (n + 1) xs)) 0) (at_first p n on) ∙ ap (λ z. Some z) (same_value u v holds)
+    ap (λ b. slice_get (cond b (u ∷ picked p (n + 1) xs) (picked p (n + 1) xs)) 0) (at_first p n on)
+    ∙ ap (λ z. Some z) (same_value u v holds)
 picked_first p n (Some u ∷ xs) (suc i) v holds on none =
     let rest : slice_get (picked p (n + 1) xs) 0 ≡ Some v =
-    picked_first p (n + 1) xs i v holds (at_later p n i on) (λ j w before there set. none (suc j) w (omega arith) there (later_at p n j set)) in
+    picked_first p (n + 1) xs i v holds (at_later p n i on)
+    (λ j w before there set. none (suc j) w (omega arith) there (later_at p n j set)) in
     elim (bool_cases (p n)) [
       | inl set ↦ absurd (none 0 u (omega arith) refl (first_at p n set))
       | inr unset ↦ ap (λ b. slice_get (cond b (u ∷ picked p (n + 1) xs) (picked p (n + 1) xs)) 0) unset ∙ rest
@@ -107,13 +114,17 @@ picked_last p n (None ∷ xs) zero v holds on none = absurd (cc)
 picked_last p n (None ∷ xs) (suc i) v holds on none =
     picked_last p (n + 1) xs i v holds (at_later p n i on) (λ j u behind there set. none (suc j) u (omega arith) there (later_at p n j set))
 picked_last p n (Some u ∷ xs) zero v holds on none =
-    let rest : picked p (n + 1) xs ≡ [] = picked_none p (n + 1) xs (λ j w there set. none (suc j) w (omega arith) there (later_at p n j set)) in
-    let P : Bool → Type 0 = λ b. slice_get (cond b (u ∷ picked p (n + 1) xs) (picked p (n + 1) xs)) (length (cond b (u ∷ picked p (n + 1) xs) (picked p (n + 1) xs)) - 1) ≡ Some v in
+    let rest : picked p (n + 1) xs ≡ [] = picked_none p (n + 1) xs
+    (λ j w there set. none (suc j) w (omega arith) there (later_at p n j set)) in
+    let P : Bool → Type 0 = λ b. slice_get (cond b (u ∷ picked p (n + 1) xs) (picked p (n + 1) xs))
+    (length (cond b (u ∷ picked p (n + 1) xs) (picked p (n + 1) xs)) - 1) ≡ Some v in
     subst P (sym (at_first p n on)) (last_one u v (picked p (n + 1) xs) rest (same_value u v holds))
 picked_last p n (Some u ∷ xs) (suc i) v holds on none =
     let rest : slice_get (picked p (n + 1) xs) (length (picked p (n + 1) xs) - 1) ≡ Some v =
-    picked_last p (n + 1) xs i v holds (at_later p n i on) (λ j w behind there set. none (suc j) w (omega arith) there (later_at p n j set)) in
-    let P : Bool → Type 0 = λ b. slice_get (cond b (u ∷ picked p (n + 1) xs) (picked p (n + 1) xs)) (length (cond b (u ∷ picked p (n + 1) xs) (picked p (n + 1) xs)) - 1) ≡ Some v in
+    picked_last p (n + 1) xs i v holds (at_later p n i on)
+    (λ j w behind there set. none (suc j) w (omega arith) there (later_at p n j set)) in
+    let P : Bool → Type 0 = λ b. slice_get (cond b (u ∷ picked p (n + 1) xs) (picked p (n + 1) xs))
+    (length (cond b (u ∷ picked p (n + 1) xs) (picked p (n + 1) xs)) - 1) ≡ Some v in
     elim (bool_cases (p n)) [
       | inl set ↦ subst P (sym set) (last_more u v (picked p (n + 1) xs) rest)
       | inr unset ↦ subst P (sym unset) rest

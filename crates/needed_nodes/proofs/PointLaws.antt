@@ -1,4 +1,5 @@
-use Rattle.std.proofs.Common.{ℕ, zero, suc, ℤ, ◌≡◌, ◌+◌, ◌*◌, ◌<◌, ◌≤◌, ◌≤ℤ◌, ◌<ℤ◌, inl, inr, Bool, true, false, cond, List, [], ◌∷◌, map, length, get_or, refl, sym, ◌∙◌, ap, ap₂, subst, arith, le_refl}
+use Rattle.std.proofs.Common.{ℕ, zero, suc, ℤ, ◌≡◌, ◌+◌, ◌*◌, ◌<◌, ◌≤◌, ◌≤ℤ◌, ◌<ℤ◌, inl, inr, Bool, true, false, cond, List, [], ◌∷◌, map}
+use Rattle.std.proofs.Common.{length, get_or, refl, sym, ◌∙◌, ap, ap₂, subst, arith, le_refl}
 use Rattle.std.proofs.Math.Nat.{mul-le-mul_right}
 use Rattle.std.proofs.lemmas.Int.{ints, by_lt_z}
 use Rattle.std.proofs.lemmas.Bool.Decides.{nat_tests}
@@ -85,11 +86,14 @@ abbrev sample_of : Axis → ℕ → ℤ → Sample
 sample_of axis n v = record { time = time_at axis n; value = v }
 
 -- the values of a column are those of its slots
-spot_values : (c : ℕ) (s : Point) (ss : List Point) (vs : List ℤ) (t : Bool) → (s.x == c) ≡ t → values_in c ss ≡ vs → values_in c (s ∷ ss) ≡ cond t (s.y ∷ vs) vs
-spot_values c s ss vs true e h = ap (λ b. map (λ s. s.y) (cond b (s ∷ filter (λ s. s.x == c) ss) (filter (λ s. s.x == c) ss))) e ∙ ap (λ zs. s.y ∷ zs) h
+spot_values : (c : ℕ) (s : Point) (ss : List Point) (vs : List ℤ) (t : Bool) → (s.x == c) ≡ t → values_in c ss ≡ vs
+    → values_in c (s ∷ ss) ≡ cond t (s.y ∷ vs) vs
+spot_values c s ss vs true e h = ap (λ b. map (λ s. s.y) (cond b (s ∷ filter (λ s. s.x == c) ss) (filter (λ s. s.x == c) ss))) e
+    ∙ ap (λ zs. s.y ∷ zs) h
 spot_values c s ss vs false e h = ap (λ b. map (λ s. s.y) (cond b (s ∷ filter (λ s. s.x == c) ss) (filter (λ s. s.x == c) ss))) e ∙ h
 
-column_values : (g : Grid) (axis : Axis) (c n : ℕ) (xs : List (Option ℤ)) → values_in c (spots_from g axis n xs) ≡ picked (in_column g axis c) n xs
+column_values : (g : Grid) (axis : Axis) (c n : ℕ) (xs : List (Option ℤ))
+    → values_in c (spots_from g axis n xs) ≡ picked (in_column g axis c) n xs
 column_values g axis c n [] = refl
 column_values g axis c n (None ∷ xs) = column_values g axis c (n + 1) xs
 column_values g axis c n (Some v ∷ xs) =
@@ -97,16 +101,19 @@ column_values g axis c n (Some v ∷ xs) =
     let vs : List ℤ = picked (in_column g axis c) (n + 1) xs in
     let t : Bool = column g (time_at axis n) == c in
     elim (in_window g (time_at axis n)) as (λ b.
-    values_in c (spots g (map point (cons_option (if b then Some (sample_of axis n v) else None) (kept_from g axis (n + 1) xs)))) ≡ cond (b && t) (v ∷ vs) vs) [
+    values_in c (spots g (map point (cons_option (if b then Some (sample_of axis n v) else None) (kept_from g axis (n + 1) xs)))) ≡ cond (b
+    && t) (v ∷ vs) vs) [
       | true ↦ spot_values c (record { x = column g (time_at axis n); y = v }) (spots_from g axis (n + 1) xs) vs t refl rest
       | false ↦ rest
     ]
 
-window_values : (g : Grid) (axis : Axis) (n : ℕ) (xs : List (Option ℤ)) → values_of (kept_from g axis n xs) ≡ picked (λ i. in_window g (time_at axis i)) n xs
+window_values : (g : Grid) (axis : Axis) (n : ℕ) (xs : List (Option ℤ))
+    → values_of (kept_from g axis n xs) ≡ picked (λ i. in_window g (time_at axis i)) n xs
 window_values g axis n [] = refl
 window_values g axis n (None ∷ xs) = window_values g axis (n + 1) xs
 window_values g axis n (Some v ∷ xs) =
-    let rest : values_of (kept_from g axis (n + 1) xs) ≡ picked (λ i. in_window g (time_at axis i)) (n + 1) xs = window_values g axis (n + 1) xs in
+    let rest : values_of (kept_from g axis (n + 1) xs) ≡ picked (λ i. in_window g (time_at axis i)) (n + 1) xs = window_values g axis
+    (n + 1) xs in
     let vs : List ℤ = picked (λ i. in_window g (time_at axis i)) (n + 1) xs in
     elim (in_window g (time_at axis n)) as (λ b.
     values_of (cons_option (if b then Some (sample_of axis n v) else None) (kept_from g axis (n + 1) xs)) ≡ cond b (v ∷ vs) vs) [
@@ -116,7 +123,8 @@ window_values g axis n (Some v ∷ xs) =
 
 -- what holds of each stored slot of the window
 spots_all : (Q : Point → Type 0) (g : Grid) (axis : Axis) (n : ℕ) (xs : List (Option ℤ))
-    → ((i : ℕ) (v : ℤ) → Holds xs i v → in_window g (time_at axis (n + i)) ≡ true → Q (record { x = column g (time_at axis (n + i)); y = v }))
+    → ((i : ℕ) (v : ℤ) → Holds xs i v → in_window g (time_at axis (n + i)) ≡ true
+    → Q (record { x = column g (time_at axis (n + i)); y = v }))
     → All Q (spots_from g axis n xs)
 spots_all Q g axis n [] each = All-nil Q
 spots_all Q g axis n (None ∷ xs) each =
@@ -136,9 +144,11 @@ spots_all Q g axis n (Some u ∷ xs) each =
     (let e : n + 0 ≡ n = omega arith in
     let P : ℕ → Type 0 = λ m. in_window g (time_at axis m) ≡ true → Q (record { x = column g (time_at axis m); y = u }) in
     subst P e (each 0 u refl)) in
-    let P : Bool → Type 0 = λ b. All Q (spots g (map point (cons_option (if b then Some (sample_of axis n u) else None) (kept_from g axis (n + 1) xs)))) in
+    let P : Bool → Type 0 = λ b. All Q (spots g (map point
+    (cons_option (if b then Some (sample_of axis n u) else None) (kept_from g axis (n + 1) xs)))) in
     elim (bool_cases (in_window g (time_at axis n))) [
-      | inl set ↦ subst P (sym set) (All-cons Q (record { x = column g (time_at axis n); y = u }) (spots_from g axis (n + 1) xs) (first set) rest)
+      | inl set ↦ subst P (sym set) (All-cons Q (record { x = column g (time_at axis n); y = u }) (spots_from g axis (n + 1) xs)
+          (first set) rest)
       | inr unset ↦ subst P (sym unset) rest
     ]
 
@@ -165,7 +175,8 @@ row_sums w list r slots drawn h =
     let short : i < length list = slice_get_within list i (Some v) holds in
     column_true w r.column i (omega (arith, slots)) (ap p e ∙ set)) in
     record {
-      first = picked_first p 0 list h.first.0 h.first.2.value h.first.2.stored (on h.first.0 h.first.1) (λ j u before holds set. h.first.3 j u (off j u holds set) before holds);
+      first = picked_first p 0 list h.first.0 h.first.2.value h.first.2.stored (on h.first.0 h.first.1)
+          (λ j u before holds set. h.first.3 j u (off j u holds set) before holds);
       least = record {
         among = picked_among p 0 list h.span.least_at r.least h.span.least (on h.span.least_at h.span.least_in);
         least = picked_all (λ u. r.least ≤ℤ u) p 0 list
@@ -176,7 +187,8 @@ row_sums w list r slots drawn h =
         greatest = picked_all (λ u. u ≤ℤ r.greatest) p 0 list
             (λ j u holds set. h.span.below j u (off j u holds set) (shown_end w r.column j (off j u holds set) drawn) holds);
       };
-      last = picked_last p 0 list h.last.0 h.last.2.value h.last.2.stored (on h.last.0 h.last.1) (λ j u behind holds set. h.last.3 j u (off j u holds set) behind holds);
+      last = picked_last p 0 list h.last.0 h.last.2.value h.last.2.stored (on h.last.0 h.last.1)
+          (λ j u behind holds set. h.last.3 j u (off j u holds set) behind holds);
     }
 
 -- e is a row of the list's points, and is drawn as r is
@@ -189,21 +201,24 @@ record IsExact (list : List (Option ℤ)) (w : Window) (r e : Row) : Type 0 wher
 abbrev height_row : ℕ → ℤ → ℤ → ℤ → ℤ → Row
 height_row c least greatest first last = record { column = c; first = first; least = least; greatest = greatest; last = last }
 
-exact : (list : List (Option ℤ)) (w : Window) (r : Row) → w.axis.slots ≡ length list → r.column < w.grid.w → IsRowOf list w r → (e : Row) × IsExact list w r e
+exact : (list : List (Option ℤ)) (w : Window) (r : Row) → w.axis.slots ≡ length list → r.column < w.grid.w → IsRowOf list w r
+    → (e : Row) × IsExact list w r e
 exact list w r slots drawn h = (
   exact_row list w r h,
   record {
     column = refl;
     extent = refl;
     heights =
-        ap₂ (height_row r.column (height_of r.least w.lo w.hi w.grid.h) (height_of r.greatest w.lo w.hi w.grid.h)) h.first.2.same h.last.2.same;
+        ap₂ (height_row r.column (height_of r.least w.lo w.hi w.grid.h) (height_of r.greatest w.lo w.hi w.grid.h)) h.first.2.same
+        h.last.2.same;
     sums =
         (let P : List ℤ → Type 0 = λ vs. Sums (exact_row list w r h) vs in
         subst P (sym (column_values w.grid w.axis r.column 0 list)) (row_sums w list r slots drawn h));
   },
 )
 
-pub rows_are : (w : Window) (list : List (Option ℤ)) (rows : List Row) → w.axis.slots ≡ length list → AreRising rows → All (IsShownRow w.grid.w) rows → All (IsRowOf list w) rows
+pub rows_are : (w : Window) (list : List (Option ℤ)) (rows : List Row) → w.axis.slots ≡ length list → AreRising rows
+    → All (IsShownRow w.grid.w) rows → All (IsRowOf list w) rows
     → ((c i : ℕ) (v : ℤ) → c < w.grid.w → rank w i ≡ suc c → Holds list i v → Contains (columns_of rows) c)
     → AreDrawnAs w.grid w.lo w.hi (points_of w.axis w.grid list) rows
 rows_are w list rows slots rising shown each every =
@@ -214,16 +229,19 @@ rows_are w list rows slots rising shown each every =
       exact = record {
         rising = pairs_rise (IsExact list w) (λ r e h. h.column) rows found.0 found.1 rising;
         each =
-            pairs_all (IsExact list w) (λ e. Sums e (values_in e.column (spots w.grid (points_of w.axis w.grid list)))) (λ r e h. h.sums) rows found.0 found.1;
+            pairs_all (IsExact list w) (λ e. Sums e (values_in e.column (spots w.grid (points_of w.axis w.grid list))))
+            (λ r e h. h.sums) rows found.0 found.1;
         every =
             (let P : List ℕ → Type 0 = λ cs. All (λ s. Contains cs s.x) (spots w.grid (points_of w.axis w.grid list)) in
-            subst P (pairs_map (IsExact list w) (λ r. r.column) (λ r e h. h.column) rows found.0 found.1) (all_columns w list rows slots every));
+            subst P (pairs_map (IsExact list w) (λ r. r.column) (λ r e h. h.column) rows found.0 found.1)
+            (all_columns w list rows slots every));
       };
       extents = pairs_map (IsExact list w) extent_of (λ r e h. h.extent) rows found.0 found.1;
       heights = pairs_map (IsExact list w) (row_height w.lo w.hi w.grid.h) (λ r e h. h.heights) rows found.0 found.1;
     }
   where
-    drawn_column : (w : Window) (i : ℕ) → IsInColumn w.axis w.grid (column w.grid (slot_time w.axis i)) i → column w.grid (slot_time w.axis i) < w.grid.w
+    drawn_column : (w : Window) (i : ℕ) → IsInColumn w.axis w.grid (column w.grid (slot_time w.axis i)) i
+        → column w.grid (slot_time w.axis i) < w.grid.w
     drawn_column w i own = column_drawn w (column w.grid (slot_time w.axis i)) i own
 
     all_columns : (w : Window) (list : List (Option ℤ)) (rows : List Row) → w.axis.slots ≡ length list
@@ -236,14 +254,20 @@ rows_are w list rows slots rising shown each every =
         let e : 0 + i ≡ i = omega arith in
         let P : ℕ → Type 0 = λ m. in_window w.grid (time_at w.axis m) ≡ true in
         let inside : InWindow w.grid (slot_time w.axis i) = window_true w.grid (time_at w.axis i) (subst P e set) in
-        let own : IsInColumn w.axis w.grid (column w.grid (slot_time w.axis i)) i = record { slot = omega (arith, slots); shown = inside; place = refl } in
+        let own : IsInColumn w.axis w.grid (column w.grid (slot_time w.axis i)) i = record {
+          slot = omega (arith, slots);
+          shown = inside;
+          place = refl;
+        } in
         let found : Contains (columns_of rows) (column w.grid (slot_time w.axis i)) =
-        every (column w.grid (slot_time w.axis i)) i v (drawn_column w i own) (column_rank w (column w.grid (slot_time w.axis i)) i own) holds in
+        every (column w.grid (slot_time w.axis i)) i v (drawn_column w i own)
+        (column_rank w (column w.grid (slot_time w.axis i)) i own) holds in
         let Q : ℕ → Type 0 = λ m. Contains (columns_of rows) (column w.grid (time_at w.axis m)) in
         subst Q (sym e) found)
 
 -- a view that shows no slot keeps no point, and has no row
-pub no_rows : (axis : Axis) (g : Grid) (lo hi : ℤ) (list : List (Option ℤ)) → axis.slots ≡ length list → ((c i : ℕ) → IsInColumn axis g c i → ⊥) → AreDrawnAs g lo hi (points_of axis g list) []
+pub no_rows : (axis : Axis) (g : Grid) (lo hi : ℤ) (list : List (Option ℤ)) → axis.slots ≡ length list
+    → ((c i : ℕ) → IsInColumn axis g c i → ⊥) → AreDrawnAs g lo hi (points_of axis g list) []
 no_rows axis g lo hi list slots none = record {
   of = [];
   exact = record {
@@ -269,9 +293,13 @@ points_all Q g axis n [] each = All-nil Q
 points_all Q g axis n (None ∷ xs) each = points_all Q g axis (n + 1) xs (λ i v le. each i v (omega arith))
 points_all Q g axis n (Some u ∷ xs) each =
     let rest : All Q (map point (kept_from g axis (n + 1) xs)) = points_all Q g axis (n + 1) xs (λ i v le. each i v (omega arith)) in
-    let P : Bool → Type 0 = λ b. All Q (map point (cons_option (if b then Some (sample_of axis n u) else None) (kept_from g axis (n + 1) xs))) in
+    let P : Bool → Type 0 = λ b. All Q (map point (cons_option (if b then Some (sample_of axis n u)
+    else None) (kept_from g axis (n + 1) xs))) in
     elim (bool_cases (in_window g (time_at axis n))) [
-      | inl set ↦ subst P (sym set) (All-cons Q (time_at axis n, u) (map point (kept_from g axis (n + 1) xs)) (each n u (le_refl n) set) rest)
+      | inl set ↦ subst P (sym set) (All-cons Q (
+        time_at axis n,
+        u,
+      ) (map point (kept_from g axis (n + 1) xs)) (each n u (le_refl n) set) rest)
       | inr unset ↦ subst P (sym unset) rest
     ]
 
@@ -285,16 +313,21 @@ time_before : (axis : Axis) (i j : ℕ) → 0 < axis.step → i < j → time_at 
 time_before axis i j step less =
     let steps : (i + 1) * axis.step ≤ j * axis.step = mul-le-mul_right {m = i + 1} {n = j} axis.step (omega arith) in omega (arith, ints)
 
-points_rise : (g : Grid) (axis : Axis) (n : ℕ) (xs : List (Option ℤ)) → 0 < axis.step → AllPairs (λ p q. p.0 <ℤ q.0) (map point (kept_from g axis n xs))
+points_rise : (g : Grid) (axis : Axis) (n : ℕ) (xs : List (Option ℤ)) → 0 < axis.step
+    → AllPairs (λ p q. p.0 <ℤ q.0) (map point (kept_from g axis n xs))
 points_rise g axis n [] step = λ i j d less short. absurd (omega arith)
 points_rise g axis n (None ∷ xs) step = points_rise g axis (n + 1) xs step
 points_rise g axis n (Some u ∷ xs) step =
     let rest : AllPairs (λ p q. p.0 <ℤ q.0) (map point (kept_from g axis (n + 1) xs)) = points_rise g axis (n + 1) xs step in
     let later : All (λ q. time_at axis n <ℤ q.0) (map point (kept_from g axis (n + 1) xs)) =
     points_all (λ q. time_at axis n <ℤ q.0) g axis (n + 1) xs (λ i v le inside. time_before axis n i step (omega arith)) in
-    let P : Bool → Type 0 = λ b. AllPairs (λ p q. p.0 <ℤ q.0) (map point (cons_option (if b then Some (sample_of axis n u) else None) (kept_from g axis (n + 1) xs))) in
+    let P : Bool → Type 0 = λ b. AllPairs (λ p q. p.0 <ℤ q.0)
+    (map point (cons_option (if b then Some (sample_of axis n u) else None) (kept_from g axis (n + 1) xs))) in
     elim (bool_cases (in_window g (time_at axis n))) [
-      | inl set ↦ subst P (sym set) (pairs_cons (λ p q. p.0 <ℤ q.0) (time_at axis n, u) (map point (kept_from g axis (n + 1) xs)) later rest)
+      | inl set ↦ subst P (sym set) (pairs_cons (λ p q. p.0 <ℤ q.0) (
+        time_at axis n,
+        u,
+      ) (map point (kept_from g axis (n + 1) xs)) later rest)
       | inr unset ↦ subst P (sym unset) rest
     ]
 
@@ -305,7 +338,8 @@ points_in_order list axis g step = record {
 }
 
 -- the span of the slots of a window is that of the values that the view keeps
-window_test : (axis : Axis) (g : Grid) (a b i : ℕ) → AreSlotsBefore axis g.t0 a → AreSlotsBefore axis g.t1 b → a ≤ i → i < b → in_window g (time_at axis i) ≡ true
+window_test : (axis : Axis) (g : Grid) (a b i : ℕ) → AreSlotsBefore axis g.t0 a → AreSlotsBefore axis g.t1 b → a ≤ i → i < b
+    → in_window g (time_at axis i) ≡ true
 window_test axis g a b i start stop from to =
     let slot : i < axis.slots = omega (arith, stop.within) in
     true_window g (time_at axis i) (record {
@@ -316,12 +350,14 @@ window_test axis g a b i start stop from to =
     not_less : (s t : ℤ) → (s <ℤ t → ⊥) → t ≤ℤ s
     not_less s t h = by_lt_z s t (λ less. absurd (h less)) (λ le. le)
 
-test_window : (axis : Axis) (g : Grid) (a b i : ℕ) → AreSlotsBefore axis g.t0 a → AreSlotsBefore axis g.t1 b → i < axis.slots → in_window g (time_at axis i) ≡ true → (a ≤ i) × (i < b)
+test_window : (axis : Axis) (g : Grid) (a b i : ℕ) → AreSlotsBefore axis g.t0 a → AreSlotsBefore axis g.t1 b → i < axis.slots
+    → in_window g (time_at axis i) ≡ true → (a ≤ i) × (i < b)
 test_window axis g a b i start stop slot inside =
     let shown : InWindow g (time_at axis i) = window_true g (time_at axis i) inside in
     (by_lt i a (λ less. absurd (omega (arith, ints, shown.from, (start.before i slot).0 less))) (λ le. le), (stop.before i slot).1 shown.to)
 
-span_values : (axis : Axis) (g : Grid) (list : List (Option ℤ)) (a b : ℕ) (s : Option Span) → axis.slots ≡ length list → AreSlotsBefore axis g.t0 a → AreSlotsBefore axis g.t1 b
+span_values : (axis : Axis) (g : Grid) (list : List (Option ℤ)) (a b : ℕ) (s : Option Span) → axis.slots ≡ length list
+    → AreSlotsBefore axis g.t0 a → AreSlotsBefore axis g.t1 b
     → IsSpanOf list a b s → IsSpanOfValues (picked (λ i. in_window g (time_at axis i)) 0 list) s
 span_values axis g list a b None slots start stop clear =
     picked_none (λ i. in_window g (time_at axis i)) 0 list
@@ -347,7 +383,8 @@ span_values axis g list a b (Some s) slots start stop h =
       none_above = picked_all (λ u. u ≤ℤ s.max) p 0 list (λ j u holds set. h.below j u (off j u holds set).0 (off j u holds set).1 holds);
     }
 
-pub window_span_is : (axis : Axis) (g : Grid) (list : List (Option ℤ)) (a b : ℕ) (s : Option Span) → axis.slots ≡ length list → AreSlotsBefore axis g.t0 a → AreSlotsBefore axis g.t1 b
+pub window_span_is : (axis : Axis) (g : Grid) (list : List (Option ℤ)) (a b : ℕ) (s : Option Span) → axis.slots ≡ length list
+    → AreSlotsBefore axis g.t0 a → AreSlotsBefore axis g.t1 b
     → s ≡ span_over list a b → IsSpanOfValues (values_of (kept g axis list)) s
 window_span_is axis g list a b s slots start stop is =
     let P : List ℤ → Type 0 = λ vs. IsSpanOfValues vs s in
@@ -355,14 +392,18 @@ window_span_is axis g list a b s slots start stop is =
     subst P (sym (window_values g axis 0 list)) (span_values axis g list a b s slots start stop (subst Q (sym is) (span_over_is list a b)))
 
 -- a window without slots shows none
-pub none_shown : (axis : Axis) (g : Grid) (a b : ℕ) → AreSlotsBefore axis g.t0 a → AreSlotsBefore axis g.t1 b → b ≤ a → (c i : ℕ) → IsInColumn axis g c i → ⊥
+pub none_shown : (axis : Axis) (g : Grid) (a b : ℕ) → AreSlotsBefore axis g.t0 a → AreSlotsBefore axis g.t1 b → b ≤ a → (c i : ℕ)
+    → IsInColumn axis g c i → ⊥
 none_shown axis g a b start stop none c i own =
-    by_lt i a (λ less. omega (arith, ints, own.shown.from, (start.before i own.slot).0 less)) (λ from. omega (arith, from, (stop.before i own.slot).1 own.shown.to, none))
+    by_lt i a (λ less. omega (arith, ints, own.shown.from, (start.before i own.slot).0 less))
+    (λ from. omega (arith, from, (stop.before i own.slot).1 own.shown.to, none))
 
 -- the pixels of the points are the places of the samples
-pixels_of : (g : Grid) (range : ValueRange) (samples : List Sample) → pixels g range.lo range.hi (map point samples) ≡ places g range samples
+pixels_of : (g : Grid) (range : ValueRange) (samples : List Sample)
+    → pixels g range.lo range.hi (map point samples) ≡ places g range samples
 pixels_of g range [] = refl
 pixels_of g range (s ∷ ss) = ap (λ ps. place g range s ∷ ps) (pixels_of g range ss)
 
-pub points_placed : (list : List (Option ℤ)) (axis : Axis) (g : Grid) (range : ValueRange) → pixels g range.lo range.hi (points_of axis g list) ≡ places g range (kept g axis list)
+pub points_placed : (list : List (Option ℤ)) (axis : Axis) (g : Grid) (range : ValueRange)
+    → pixels g range.lo range.hi (points_of axis g list) ≡ places g range (kept g axis list)
 points_placed list axis g range = pixels_of g range (kept g axis list)

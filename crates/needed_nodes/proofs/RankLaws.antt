@@ -94,7 +94,8 @@ rank_rises w i j le =
 
 pub rank_most : (w : Window) (i : ℕ) → rank w i ≤ suc w.grid.w
 rank_most w i =
-    by_lt i w.end (λ in'. omega (arith, rank_rises w i w.end (omega arith), rank_behind w w.end (le_refl w.end))) (λ past. omega (arith, rank_behind w i past))
+    by_lt i w.end (λ in'. omega (arith, rank_rises w i w.end (omega arith), rank_behind w w.end (le_refl w.end)))
+    (λ past. omega (arith, rank_behind w i past))
 
 -- the ranks of a key's slots
 pub rank_from : (w : Window) (k : Key) (i : ℕ) → first_slot k ≤ i → first_rank w k ≤ rank w i
@@ -141,7 +142,8 @@ inside_within w c k own i range = rank_column w c i (inside_rank w c k i own ran
 
 pub within_inside : (w : Window) (c : ℕ) (k : Key) → IsWithin w.axis w.grid c k → IsInside w c k
 within_inside w c k own =
-    let first : IsInColumn w.axis w.grid c (first_slot k) = own (first_slot k) (record { from = le_refl (first_slot k); to = some_slot k }) in
+    let first : IsInColumn w.axis w.grid c (first_slot k) = own (first_slot k)
+    (record { from = le_refl (first_slot k); to = some_slot k }) in
     let last : IsInColumn w.axis w.grid c (end_slot k - 1) =
     own (end_slot k - 1) (record { from = omega (arith, some_slot k); to = omega (arith, some_slot k) }) in
     record {
@@ -171,7 +173,8 @@ pub record CutBy (w : Window) (k : Key) : Type 0 where
   pub cut : IsCut w.axis w.grid column k
 
 -- two slots of a key's range, one of which lies in a column where the other doesn't
-cut_at : (w : Window) (k : Key) (c i j : ℕ) → rank w i ≡ suc c → c < w.grid.w → (rank w j ≡ suc c → ⊥) → IsInRange k i → IsInRange k j → CutBy w k
+cut_at : (w : Window) (k : Key) (c i j : ℕ) → rank w i ≡ suc c → c < w.grid.w → (rank w j ≡ suc c → ⊥) → IsInRange k i → IsInRange k j
+    → CutBy w k
 cut_at w k c i j is drawn other here there = record {
   column = c;
   shown = drawn;
@@ -190,7 +193,8 @@ by_rank w i early own late =
     by_lt i w.from early
     (λ from.
     by_lt i w.end
-    (λ to. own (column w.grid (slot_time w.axis i)) (rank_shown w i from to) (column-below w.grid (slot_time w.axis i) (slot_shown w i from to)))
+    (λ to. own (column w.grid (slot_time w.axis i)) (rank_shown w i from to)
+    (column-below w.grid (slot_time w.axis i) (slot_shown w i from to)))
     late)
 
 pub cut_by : (w : Window) (k : Key) → IsCutKey w k → CutBy w k
@@ -214,7 +218,8 @@ cut_by w k cut =
     (λ late. absurd (omega (arith, cut, rank_behind w first late, rank_most w last)))
 
 -- no slot of a key outside the columns lies in one
-pub outside_rank : (w : Window) (k : Key) (c i : ℕ) → IsOutside w k → first_slot k ≤ i → i < end_slot k → c < w.grid.w → rank w i ≡ suc c → ⊥
+pub outside_rank : (w : Window) (k : Key) (c i : ℕ) → IsOutside w k → first_slot k ≤ i → i < end_slot k → c < w.grid.w → rank w i ≡ suc c
+    → ⊥
 outside_rank w k c i out from to drawn is =
     elim out.beyond [
       | inl none ↦ omega (arith, out.even, rank_from w k i from, rank_to w k i to)
@@ -222,7 +227,8 @@ outside_rank w k c i out from to drawn is =
     ]
 
 -- a key within a column that shares a slot with a largest one lies within that one
-pub block_holds : (w : Window) (c : ℕ) (b k : Key) (i : ℕ) → IsTopmost w b → IsKey (height w.axis.slots) k → IsInside w c k → first_slot b ≤ i → i < end_slot b → first_slot k ≤ i → i < end_slot k → IsBelow b k
+pub block_holds : (w : Window) (c : ℕ) (b k : Key) (i : ℕ) → IsTopmost w b → IsKey (height w.axis.slots) k → IsInside w c k
+    → first_slot b ≤ i → i < end_slot b → first_slot k ≤ i → i < end_slot k → IsBelow b k
 block_holds w c b k i top key own p q r s =
     by_lt b.level k.level
     (λ lower. elim top [

@@ -1,4 +1,5 @@
-use Rattle.std.proofs.Common.{ℕ, zero, suc, ℤ, ◌≡◌, ◌+◌, ◌*◌, ◌%◌, ◌^◌, ◌<◌, ◌≤◌, ◌⊎◌, inl, inr, cond, List, length, refl, sym, ◌∙◌, ap, ap₂, subst, arith}
+use Rattle.std.proofs.Common.{ℕ, zero, suc, ℤ, ◌≡◌, ◌+◌, ◌*◌, ◌%◌, ◌^◌, ◌<◌, ◌≤◌, ◌⊎◌, inl, inr, cond, List, length, refl, sym, ◌∙◌, ap}
+use Rattle.std.proofs.Common.{ap₂, subst, arith}
 use Rattle.std.proofs.lemmas.Option.{same_Some}
 use Rattle.std.specs.Prelude.{Option, Some, None, ◌==◌}
 use Rattle.std.specs.Option.{option_map}
@@ -12,7 +13,8 @@ use Rattle.om3_coeff.specs.Known.{half, known_below, known}
 use Rattle.om3_coeff.specs.View.{NodesView, StaysSame, known_of}
 use Rattle.om3_coeff.specs.Walks.{StaysBelow}
 use Rattle.om3_coeff.proofs.CoefLemmas.{AreParts, parts_are}
-use Rattle.om3_coeff.proofs.KeyLemmas.{left_first, right_end, left_some, right_some, left_parent, right_parent, left_key, right_key, above_itself, same_key}
+use Rattle.om3_coeff.proofs.KeyLemmas.{left_first, right_end, left_some, right_some, left_parent, right_parent, left_key, right_key}
+use Rattle.om3_coeff.proofs.KeyLemmas.{above_itself, same_key}
 use Rattle.om3_coeff.proofs.KnownLemmas.{known_step, known_clear, known_spans}
 use Rattle.view_keys.specs.Flat.{IsFlat}
 use Rattle.view_keys.specs.Wanted.{Seen, IsWanted, IsClearBefore, IsClearBehind}
@@ -46,7 +48,8 @@ serves_list_later v u w list same h = record {
   serves = serves_later v u w (list_seen list) same h.serves;
 }
 
-pub serves_list_earlier : (v u : NodesView) (w : Window) (list : List (Option ℤ)) → StaysSame v u → ServesList u w list → ServesList v w list
+pub serves_list_earlier : (v u : NodesView) (w : Window) (list : List (Option ℤ)) → StaysSame v u → ServesList u w list
+    → ServesList v w list
 serves_list_earlier v u w list same h = record {
   values = h.values;
   few = h.few;
@@ -75,11 +78,13 @@ known_own v w k s ready tells =
     ap (λ n. known v.root v.told (height n) k) ready.slots ∙ ready.known (own_seen v) (serves_own v w tells)
 
 -- what a list's tree shows is the list's
-pub list_shown : (list : List (Option ℤ)) (w : Window) (k : Key) → AreSlots list → w.axis.slots ≡ length list → IsKey (height w.axis.slots) k
+pub list_shown : (list : List (Option ℤ)) (w : Window) (k : Key) → AreSlots list → w.axis.slots ≡ length list
+    → IsKey (height w.axis.slots) k
     → shown_by (list_seen list) w k ≡ Some (span list k)
 list_shown list w k values slots key =
     let P : ℕ → Type 0 = λ n. IsKey (height n) k → known (list_seen list).root (list_seen list).told (height n) k ≡ Some (span list k) in
-    subst P (sym slots) (λ own. known_spans (list_seen list).root (list_seen list).told list k values refl own (λ v node higher above some. refl)) key
+    subst P (sym slots) (λ own. known_spans (list_seen list).root (list_seen list).told list k values refl own
+    (λ v node higher above some. refl)) key
 
 -- what is shown of the halves of a key
 even : (q : ℕ) → (2 * q) % 2 ≡ 0
@@ -115,11 +120,13 @@ pub node_of : (v : NodesView) (w : Window) (k : Key) (s : Option Span) → IsRea
 node_of v w k s ready low = record { low = low; high = ready.key.high; within = ready.key.within }
 
 -- what was told of the key that was asked
-pub told_served : (v : NodesView) (w : Window) (k : Key) (c : Coef) (S : Seen) → (v.tells → v.told k ≡ Some c) → Serves v w S → IsWanted S w.axis w.grid w.lo w.hi k → S.told k ≡ Some c
+pub told_served : (v : NodesView) (w : Window) (k : Key) (c : Coef) (S : Seen) → (v.tells → v.told k ≡ Some c) → Serves v w S
+    → IsWanted S w.axis w.grid w.lo w.hi k → S.told k ≡ Some c
 told_served v w k c S told served wanted = sym (served.told k wanted) ∙ told served.tells
 
 pub ready_left : (v u : NodesView) (w : Window) (k : Key) (s : Span) (c : Coef) (l r : Option Span) → IsReady v w k (Some s) → 1 ≤ k.level
-    → ((S : Seen) → Serves v w S → IsWanted S w.axis w.grid w.lo w.hi k) → StaysSame v u → u.fit → (v.tells → v.told k ≡ Some c) → parts s c ≡ Some (l, r)
+    → ((S : Seen) → Serves v w S → IsWanted S w.axis w.grid w.lo w.hi k) → StaysSame v u → u.fit → (v.tells → v.told k ≡ Some c)
+    → parts s c ≡ Some (l, r)
     → IsReady u w (left_of k) l
 ready_left v u w k s c l r ready low wanted same fit told split =
     let node : IsNode (height w.axis.slots) k = node_of v w k (Some s) ready low in
@@ -135,7 +142,8 @@ ready_left v u w k s c l r ready low wanted same fit told split =
     }
 
 pub ready_right : (v u : NodesView) (w : Window) (k : Key) (s : Span) (c : Coef) (l r : Option Span) → IsReady v w k (Some s) → 1 ≤ k.level
-    → ((S : Seen) → Serves v w S → IsWanted S w.axis w.grid w.lo w.hi k) → StaysSame v u → u.fit → (v.tells → v.told k ≡ Some c) → parts s c ≡ Some (l, r)
+    → ((S : Seen) → Serves v w S → IsWanted S w.axis w.grid w.lo w.hi k) → StaysSame v u → u.fit → (v.tells → v.told k ≡ Some c)
+    → parts s c ≡ Some (l, r)
     → IsReady u w (right_of k) r
 ready_right v u w k s c l r ready low wanted same fit told split =
     let node : IsNode (height w.axis.slots) k = node_of v w k (Some s) ready low in
@@ -151,11 +159,13 @@ ready_right v u w k s c l r ready low wanted same fit told split =
     }
 
 -- a slot of a key that has no span is clear, and so is every key below it
-pub clear_slot : (S : Seen) (w : Window) (k : Key) (i : ℕ) → IsKey (height w.axis.slots) k → shown_by S w k ≡ Some None → first_slot k ≤ i → i < end_slot k → IsClearBy S w i
+pub clear_slot : (S : Seen) (w : Window) (k : Key) (i : ℕ) → IsKey (height w.axis.slots) k → shown_by S w k ≡ Some None → first_slot k ≤ i
+    → i < end_slot k → IsClearBy S w i
 clear_slot S w k i key none from to =
     known_clear S.root S.told (height w.axis.slots) k (slot_key i) key.high (at_or_above k (slot_key i) (slot_below k i from to)) none
 
-pub clear_key : (S : Seen) (w : Window) (k b : Key) → IsKey (height w.axis.slots) k → shown_by S w k ≡ Some None → IsBelow k b → shown_by S w b ≡ Some None
+pub clear_key : (S : Seen) (w : Window) (k b : Key) → IsKey (height w.axis.slots) k → shown_by S w k ≡ Some None → IsBelow k b
+    → shown_by S w b ≡ Some None
 clear_key S w k b key none below = known_clear S.root S.told (height w.axis.slots) k b key.high (at_or_above k b below) none
 
 -- a key is not clear where one of its slots isn't
@@ -204,7 +214,8 @@ both_unclear S w k s c None (Some r) node seen told split =
 both_unclear S w k s c None None node seen told split =
     let both : AreParts s c None None = parts_are s c None None split in absurd (let e : None ≡ Some s = both.whole in cc)
 
-split_unclear : (S : Seen) (w : Window) (k : Key) (s : Span) (c : Coef) (p : Option (Option Span × Option Span)) → IsNode (height w.axis.slots) k
+split_unclear : (S : Seen) (w : Window) (k : Key) (s : Span) (c : Coef) (p : Option (Option Span × Option Span))
+    → IsNode (height w.axis.slots) k
     → shown_by S w k ≡ Some (Some s) → S.told k ≡ Some c → parts s c ≡ p → EitherUnclear S w k
 split_unclear S w k s c None node seen told split =
     inl (unknown_left S w k (Some (Some s)) (Some c) node seen told (ap (option_map (half (2 * k.index))) split))
@@ -217,7 +228,8 @@ told_unclear S w k (Some None) c node ea ec some = absurd (some refl)
 told_unclear S w k (Some (Some s)) None node ea ec some = inl (unknown_left S w k (Some (Some s)) None node ea ec refl)
 told_unclear S w k (Some (Some s)) (Some c) node ea ec some = split_unclear S w k s c (parts s c) node ea ec refl
 
-unclear_at : (S : Seen) (w : Window) (level : ℕ) (k : Key) → k.level ≡ level → IsKey (height w.axis.slots) k → (shown_by S w k ≡ Some None → ⊥) → HasSlot S w k
+unclear_at : (S : Seen) (w : Window) (level : ℕ) (k : Key) → k.level ≡ level → IsKey (height w.axis.slots) k
+    → (shown_by S w k ≡ Some None → ⊥) → HasSlot S w k
 unclear_at S w zero k levels key some =
     let one : 2 ^ k.level ≡ 1 = ap (λ n. 2 ^ n) levels in
     let same : slot_key k.index ≡ k = same_key (slot_key k.index) k (sym levels) refl in
@@ -237,7 +249,8 @@ unclear_at S w (suc level) k levels key some =
     ]
 
 -- a key with a span has a slot that isn't clear
-pub unclear_slot : (S : Seen) (w : Window) (k : Key) (s : Span) → IsKey (height w.axis.slots) k → shown_by S w k ≡ Some (Some s) → HasSlot S w k
+pub unclear_slot : (S : Seen) (w : Window) (k : Key) (s : Span) → IsKey (height w.axis.slots) k → shown_by S w k ≡ Some (Some s)
+    → HasSlot S w k
 unclear_slot S w k s key seen = unclear_at S w k.level k refl key (λ clear. cc)
 
 over_own : (k : Key) (asked : Option Key) → asked ≡ Some k → IsOver k asked
@@ -250,7 +263,8 @@ over_after k asked now low is stays = elim stays [
   | inr over ↦ over_half k now low over
 ]
 
-pub stays_below : (k : Key) (old asked between now : Option Key) → 1 ≤ k.level → asked ≡ Some k → StaysBelow (left_of k) asked between → StaysBelow (right_of k) between now → StaysBelow k old now
+pub stays_below : (k : Key) (old asked between now : Option Key) → 1 ≤ k.level → asked ≡ Some k → StaysBelow (left_of k) asked between
+    → StaysBelow (right_of k) between now → StaysBelow k old now
 stays_below k old asked between now low is left right = elim right [
   | inl same ↦
       let P : Option Key → Type 0 = λ a. IsOver k a in
@@ -259,18 +273,22 @@ stays_below k old asked between now low is left right = elim right [
 ]
 
 -- which keys are wanted
-pub cut_wanted : (S : Seen) (w : Window) (k : Key) (s : Span) → IsNode (height w.axis.slots) k → shown_by S w k ≡ Some (Some s) → IsCutKey w k → IsWanted S w.axis w.grid w.lo w.hi k
+pub cut_wanted : (S : Seen) (w : Window) (k : Key) (s : Span) → IsNode (height w.axis.slots) k → shown_by S w k ≡ Some (Some s)
+    → IsCutKey w k → IsWanted S w.axis w.grid w.lo w.hi k
 cut_wanted S w k s node seen cut =
     let by : CutBy w k = cut_by w k cut in
     record { node = node; span = s; known_so = seen; column = by.column; shown = by.shown; reason = inl by.cut }
 
-pub end_wanted : (S : Seen) (w : Window) (c : ℕ) (k : Key) (s : Span) → IsNode (height w.axis.slots) k → shown_by S w k ≡ Some (Some s) → IsInside w c k
-    → (IsFlat w.lo w.hi w.grid.h s → ⊥) → IsClearBefore S w.axis w.grid c k ⊎ IsClearBehind S w.axis w.grid c k → IsWanted S w.axis w.grid w.lo w.hi k
+pub end_wanted : (S : Seen) (w : Window) (c : ℕ) (k : Key) (s : Span) → IsNode (height w.axis.slots) k → shown_by S w k ≡ Some (Some s)
+    → IsInside w c k
+    → (IsFlat w.lo w.hi w.grid.h s → ⊥) → IsClearBefore S w.axis w.grid c k ⊎ IsClearBehind S w.axis w.grid c k
+    → IsWanted S w.axis w.grid w.lo w.hi k
 end_wanted S w c k s node seen own uneven clear =
     record { node = node; span = s; known_so = seen; column = c; shown = own.shown; reason = inr (inside_within w c k own, uneven, clear) }
 
 -- a key is uneven where the span that is seen of it is
-pub uneven_of : (S : Seen) (w : Window) (k : Key) (s : Span) → shown_by S w k ≡ Some (Some s) → (IsFlat w.lo w.hi w.grid.h s → ⊥) → IsUnevenBy S w k
+pub uneven_of : (S : Seen) (w : Window) (k : Key) (s : Span) → shown_by S w k ≡ Some (Some s) → (IsFlat w.lo w.hi w.grid.h s → ⊥)
+    → IsUnevenBy S w k
 uneven_of S w k s seen uneven t there flat =
     let same : t ≡ s = same_Some t s (same_Some (Some t) (Some s) (sym there ∙ seen)) in
     let P : Span → Type 0 = λ x. IsFlat w.lo w.hi w.grid.h x in uneven (subst P same flat)
@@ -300,10 +318,12 @@ ready_as v w k s t e h = let P : Option Span → Type 0 = λ o. IsReady v w k o 
 pub ready_at : (v : NodesView) (w : Window) (k l : Key) (s : Option Span) → l ≡ k → IsReady v w k s → IsReady v w l s
 ready_at v w k l s e h = let P : Key → Type 0 = λ b. IsReady v w b s in subst P (sym e) h
 
-pub ready_on : (v u : NodesView) (w : Window) (k l : Key) (s : Option Span) → l ≡ k → StaysSame v u → u.fit → IsReady v w k s → IsReady u w l s
+pub ready_on : (v u : NodesView) (w : Window) (k l : Key) (s : Option Span) → l ≡ k → StaysSame v u → u.fit → IsReady v w k s
+    → IsReady u w l s
 ready_on v u w k l s e same fit h = ready_at u w k l s e (ready_later v u w k s same fit h)
 
-pub stays_below_at : (k l r : Key) (old asked between now : Option Key) → 1 ≤ k.level → l ≡ left_of k → r ≡ right_of k → asked ≡ Some k → StaysBelow l asked between → StaysBelow r between now
+pub stays_below_at : (k l r : Key) (old asked between now : Option Key) → 1 ≤ k.level → l ≡ left_of k → r ≡ right_of k → asked ≡ Some k
+    → StaysBelow l asked between → StaysBelow r between now
     → StaysBelow k old now
 stays_below_at k l r old asked between now low el er is left right =
     let P : Key → Type 0 = λ b. StaysBelow b asked between in

@@ -35,16 +35,22 @@ has_cause_earlier v u t (Damaged page) same quiet h = same.was_bad (Damaged page
 has_cause_earlier v u t (Missing key) same quiet h = same.was_bad (Missing key) h
 has_cause_earlier v u t (BadCoefficient key) same quiet h = same.was_bad (BadCoefficient key) h
 
-pub cause_earlier : (v u t : NodesView) (w : Window) (e : ScanOf) → StaysSame v u → u.faults ≡ v.faults → IsCauseOf u t w e → IsCauseOf v t w e
-cause_earlier v u t w (Node e) same quiet h = (has_cause_earlier v u t e same quiet h.0, λ S served. h.1 S (serves_later v u w S same served))
+pub cause_earlier : (v u t : NodesView) (w : Window) (e : ScanOf) → StaysSame v u → u.faults ≡ v.faults → IsCauseOf u t w e
+    → IsCauseOf v t w e
+cause_earlier v u t w (Node e) same quiet h = (
+  has_cause_earlier v u t e same quiet h.0,
+  λ S served. h.1 S (serves_later v u w S same served),
+)
 cause_earlier v u t w NoMemory same quiet h = tt
 
 -- the span that a walk has of a key is the list's
-pub list_span : (v : NodesView) (w : Window) (k : Key) (s : Option Span) (list : List (Option ℤ)) → IsReady v w k s → ServesList v w list → span list k ≡ s
+pub list_span : (v : NodesView) (w : Window) (k : Key) (s : Option Span) (list : List (Option ℤ)) → IsReady v w k s → ServesList v w list
+    → span list k ≡ s
 list_span v w k s list ready served =
     same_Some (span list k) s (sym (list_shown list w k served.values served.slots ready.key) ∙ ready.known (list_seen list) served.serves)
 
-pub list_extremes : (v : NodesView) (w : Window) (k : Key) (s : Span) (list : List (Option ℤ)) → IsReady v w k (Some s) → ServesList v w list
+pub list_extremes : (v : NodesView) (w : Window) (k : Key) (s : Span) (list : List (Option ℤ)) → IsReady v w k (Some s)
+    → ServesList v w list
     → AreExtremes list (first_slot k) (end_slot k) s
 list_extremes v w k s list ready served =
     let P : Option Span → Type 0 = λ o. IsSpanOf list (first_slot k) (end_slot k) o in
@@ -79,7 +85,8 @@ pub right_apart : (k b : Key) → 1 ≤ k.level → IsBelow (right_of k) b → b
 right_apart k b low h same = omega (arith, h.lower, ap (λ c. c.level) same)
 
 -- how a key and two parts make up a third one
-pub record Halves (v : NodesView) (w : Window) (k : Key) (Left Right Part : Key → Type 0) (LeftKind RightKind Kind : Seen → Key → Type 0) : Type 0 where
+pub record Halves (v : NodesView) (w : Window) (k : Key) (Left Right Part : Key → Type 0) (LeftKind RightKind Kind : Seen → Key
+    → Type 0) : Type 0 where
   pub left_apart : (b : Key) → Left b → b ≡ k → ⊥
   pub right_apart : (b : Key) → Right b → b ≡ k → ⊥
   pub apart : (b : Key) → Left b → Right b → ⊥
@@ -91,7 +98,8 @@ pub record Halves (v : NodesView) (w : Window) (k : Key) (Left Right Part : Key 
   pub covers : (S : Seen) → Serves v w S → (b : Key) → IsNode (height w.axis.slots) b → Part b → IsSeenBy S w b → Kind S b
       → (b ≡ k) ⊎ ((Left b × LeftKind S b) ⊎ (Right b × RightKind S b))
 
-pub gathers_halves : (v u t : NodesView) (w : Window) (k : Key) (c : Coef) (Left Right Part : Key → Type 0) (LeftKind RightKind Kind : Seen → Key → Type 0) (m n most : ℕ) (old one mid new : List (Key × Coef))
+pub gathers_halves : (v u t : NodesView) (w : Window) (k : Key) (c : Coef) (Left Right Part : Key → Type 0) (LeftKind RightKind Kind : Seen
+    → Key → Type 0) (m n most : ℕ) (old one mid new : List (Key × Coef))
     → Halves v w k Left Right Part LeftKind RightKind Kind → 1 + m + n ≤ most → IsNode (height w.axis.slots) k → CanSplit c
     → ((S : Seen) → Serves v w S → IsToldBy S w Kind (k, c)) → one ≡ old ++ (k, c) ∷ []
     → StaysSame v u → Gathered u w Left LeftKind m one mid → StaysSame v t → Gathered t w Right RightKind n mid new
@@ -118,7 +126,11 @@ gathers_halves v u t w k c Left Right Part LeftKind RightKind Kind m n most old 
     } in
     let second : Joins v w Both Right Part Kind RightKind Kind = record {
       apart = λ b part there. elim part [ inl here ↦ halves.right_apart b there here | inr l ↦ halves.apart b l there ];
-      first = λ b part. elim part [ inl here ↦ (let Q : Key → Type 0 = λ x. Part x in subst Q (sym here) halves.own) | inr l ↦ halves.left b l ];
+      first = λ b part. elim part [
+        | inl here ↦ (let Q : Key → Type 0 = λ x. Part x in
+            subst Q (sym here) halves.own)
+        | inr l ↦ halves.left b l
+      ];
       second = λ b there. halves.right b there;
       first_kind = λ S served b bnode here seen kind. kind;
       second_kind = λ S served b bnode there seen kind. halves.right_kind S served b there seen kind;

@@ -97,7 +97,8 @@ HoldSpans list w x table = (c : ℕ) → c < w.grid.w → IsSpanBelowIfAny list 
 
 -- What a walk found at or below the key k: the cut keys there, and what the table says of the slots
 -- before the key's range it now says of those before its end.
-pub record Finds (old new : NodesView) (w : Window) (k : Key) (keys more : List (Key × Coef)) (table later : List (Option Blocks)) : Type 0 where
+pub record Finds (old new : NodesView) (w : Window) (k : Key) (keys more : List (Key × Coef))
+    (table later : List (Option Blocks)) : Type 0 where
   pub below : StaysBelow k old.asked new.asked
   pub cuts : Gathered old w (IsCutBelow w k) (λ S c. ⊤) (most_cut w k) keys more
   pub blocks : HoldBlocks w (first_slot k) table → HoldBlocks w (end_slot k) later

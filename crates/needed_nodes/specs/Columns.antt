@@ -42,12 +42,14 @@ pub record IsInColumns (w : Window) (n : ℕ) (k : Key) : Type 0 where
 -- v has the height of the first value that the list stores in column c
 abbrev pub IsFirstOf : List (Option ℤ) → Window → ℕ → Option ℤ → Type 0
 IsFirstOf list w c None = ⊥
-IsFirstOf list w c (Some v) = (i : ℕ) × (rank w i ≡ suc c) × HoldsAs list w i v × ((j : ℕ) (u : ℤ) → rank w j ≡ suc c → j < i → Holds list j u → ⊥)
+IsFirstOf list w c (Some v) = (i : ℕ) × (rank w i ≡ suc c) × HoldsAs list w i v
+    × ((j : ℕ) (u : ℤ) → rank w j ≡ suc c → j < i → Holds list j u → ⊥)
 
 -- it has that of the last one
 abbrev pub IsLastOf : List (Option ℤ) → Window → ℕ → Option ℤ → Type 0
 IsLastOf list w c None = ⊥
-IsLastOf list w c (Some v) = (i : ℕ) × (rank w i ≡ suc c) × HoldsAs list w i v × ((j : ℕ) (u : ℤ) → rank w j ≡ suc c → i < j → Holds list j u → ⊥)
+IsLastOf list w c (Some v) = (i : ℕ) × (rank w i ≡ suc c) × HoldsAs list w i v
+    × ((j : ℕ) (u : ℤ) → rank w j ≡ suc c → i < j → Holds list j u → ⊥)
 
 -- What was found of the ends of column c, whose blocks have the span s.
 pub record HasEnds (view : NodesView) (w : Window) (c : ℕ) (s : Span) (keys more : List (Key × Coef)) (values : EndValues) : Type 0 where
@@ -102,4 +104,5 @@ pub record HasColumns (view : NodesView) (w : Window) (n : ℕ) (keys more : Lis
   pub shown : All (IsShownRow w.grid.w) rows
   pub below : All (λ r. r.column < n) rows
   pub each : (list : List (Option ℤ)) → ServesList view w list → All (IsRowOf list w) rows
-  pub every : (list : List (Option ℤ)) → ServesList view w list → (c i : ℕ) (v : ℤ) → c < n → rank w i ≡ suc c → Holds list i v → Contains (columns_of rows) c
+  pub every : (list : List (Option ℤ)) → ServesList view w list → (c i : ℕ) (v : ℤ) → c < n → rank w i ≡ suc c → Holds list i v
+      → Contains (columns_of rows) c

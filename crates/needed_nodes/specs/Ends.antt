@@ -1,5 +1,6 @@
 -- The keys on the ways to the first and to the last stored slot of a column, and the values there.
-use Rattle.std.specs.Prelude.{ℕ, ℤ, ◌+◌, ◌*◌, ◌<◌, ◌≤◌, ◌≤ℤ◌, ◌⊎◌, ◌≡◌, IsTrue, Bool, ◌&&◌, is_none, if◌then◌else◌, List, Option, None, Some, IfSome, IsSome}
+use Rattle.std.specs.Prelude.{ℕ, ℤ, ◌+◌, ◌*◌, ◌<◌, ◌≤◌, ◌≤ℤ◌, ◌⊎◌, ◌≡◌, IsTrue, Bool, ◌&&◌, is_none, if◌then◌else◌, List, Option, None}
+use Rattle.std.specs.Prelude.{Some, IfSome, IsSome}
 use Rattle.chart_grid.specs.Projection.{height}
 use Rattle.om3_coeff.specs.declared.key.Key.{Key}
 use Rattle.om3_coeff.specs.declared.span.Span.{Span}
@@ -94,9 +95,12 @@ IsLastIn list w a b (Some v) = (i : ℕ) × (a ≤ i) × (i < b) × HoldsAs list
 
 -- What a walk found at or below the key k of column c, which has the span s if any: the keys that hold a
 -- sought end, and the values there.
-pub record Follows (old new : NodesView) (w : Window) (c : ℕ) (k : Key) (s : Option Span) (sought : Sought) (keys more : List (Key × Coef)) (values : EndValues) : Type 0 where
+pub record Follows (old new : NodesView) (w : Window) (c : ℕ) (k : Key) (s : Option Span) (sought : Sought) (keys more : List (Key × Coef))
+    (values : EndValues) : Type 0 where
   pub below : StaysBelow k old.asked new.asked
   pub gathered : Gathered old w (IsBelow k) (HoldsSought w c sought) (most_ends s sought k) keys more
   pub among : AreAmong s values
-  pub first : (list : List (Option ℤ)) → ServesList old w list → IsTrue sought.first → IsSome s → IsFirstIn list w (first_slot k) (end_slot k) values.first
-  pub last : (list : List (Option ℤ)) → ServesList old w list → IsTrue sought.last → IsSome s → IsLastIn list w (first_slot k) (end_slot k) values.last
+  pub first : (list : List (Option ℤ)) → ServesList old w list → IsTrue sought.first → IsSome s
+      → IsFirstIn list w (first_slot k) (end_slot k) values.first
+  pub last : (list : List (Option ℤ)) → ServesList old w list → IsTrue sought.last → IsSome s
+      → IsLastIn list w (first_slot k) (end_slot k) values.last

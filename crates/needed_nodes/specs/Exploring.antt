@@ -35,7 +35,9 @@ pub record Explores (view : NodesView) (axis : Axis) (grid : Grid) (lo hi : ℤ)
   pub apart : AreApart keys
   pub few : length keys ≤ most_needed grid.w axis.slots
   pub told : view.tells → AreAllOf (IsWanted (seen_of view) axis grid lo hi) view.told keys
-  pub of_list : (list : List (Option ℤ)) → AgreesForView view axis grid lo hi list → AreAllOf (IsNeeded list axis grid lo hi) (λ k. Some (coef list k)) keys
+  pub of_list : (list : List (Option ℤ)) → AgreesForView view axis grid lo hi list
+      → AreAllOf (IsNeeded list axis grid lo hi) (λ k. Some (coef list k)) keys
   pub rising : AreRising rows
   pub shown : All (IsShownRow grid.w) rows
-  pub rows_of_list : (list : List (Option ℤ)) → AgreesForView view axis grid lo hi list → AreDrawnAs grid lo hi (points_of axis grid list) rows
+  pub rows_of_list : (list : List (Option ℤ)) → AgreesForView view axis grid lo hi list
+      → AreDrawnAs grid lo hi (points_of axis grid list) rows

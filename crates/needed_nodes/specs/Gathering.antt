@@ -28,7 +28,8 @@ pub record IsToldBy (S : Seen) (w : Window) (Kind : Seen → Key → Type 0) (e 
 
 -- To the list were added keys of a part of the tree, at most so many and each once, with coefficients
 -- that split. For what the nodes serve they are all seen keys of this kind there.
-pub record Gathered (view : NodesView) (w : Window) (Part : Key → Type 0) (Kind : Seen → Key → Type 0) (most : ℕ) (old new : List (Key × Coef)) : Type 0 where
+pub record Gathered (view : NodesView) (w : Window) (Part : Key → Type 0) (Kind : Seen → Key
+    → Type 0) (most : ℕ) (old new : List (Key × Coef)) : Type 0 where
   pub more : List (Key × Coef)
   pub is : new ≡ old ++ more
   pub nodes : All (λ e. IsNode (height w.axis.slots) e.0) more
@@ -37,4 +38,5 @@ pub record Gathered (view : NodesView) (w : Window) (Part : Key → Type 0) (Kin
   pub apart : AreApart more
   pub few : length more ≤ most
   pub told : (S : Seen) → Serves view w S → All (IsToldBy S w Kind) more
-  pub all : (S : Seen) → Serves view w S → (k : Key) → IsNode (height w.axis.slots) k → Part k → IsSeenBy S w k → Kind S k → Contains (keys_of more) k
+  pub all : (S : Seen) → Serves view w S → (k : Key) → IsNode (height w.axis.slots) k → Part k → IsSeenBy S w k → Kind S k
+      → Contains (keys_of more) k

@@ -26,7 +26,8 @@ pub(crate) fn ask<N: Nodes>(
 ) -> Result<Node, NodeError>
     requires ready { IsReady (N.view nodes.old) window.now key (Some span) }
     requires low { 1 ≤ key.level }
-    requires wanted { (S : Seen) → Serves (N.view nodes.old) window.now S → IsWanted S window.now.axis window.now.grid window.now.lo window.now.hi key }
+    requires wanted { (S : Seen) → Serves (N.view nodes.old) window.now S
+        → IsWanted S window.now.axis window.now.grid window.now.lo window.now.hi key }
 
     ensures fit { (N.view nodes.new).fit }
     ensures kept { N.keeps nodes.old nodes.new }

@@ -3,7 +3,8 @@ ghost use Rattle.om3_coeff.specs.declared.errors.NodeError.TheVariants.{DiskFaul
 ghost use Rattle.om3_coeff.specs.Keys.{height, page_levels};
 ghost use Rattle.view_keys.specs.Wanted.{Seen};
 ghost use Rattle.needed_nodes.specs.Serving.{Serves, ServesList, IsCauseOf};
-ghost use Rattle.needed_nodes.specs.Blocks.{AreBlocks, AreEnds, AreBlocksIfAny, AreEndsIfAny, IsSpanBelowIfAny, HoldBlocks, HoldEnds, HoldSpans};
+ghost use Rattle.needed_nodes.specs.Blocks.{AreBlocks, AreEnds, AreBlocksIfAny, AreEndsIfAny, IsSpanBelowIfAny, HoldBlocks, HoldEnds};
+ghost use Rattle.needed_nodes.specs.Blocks.{HoldSpans};
 ghost use Rattle.needed_nodes.specs.Columns.{top_end, HasEnds, HasColumn, HasColumns, row_by};
 
 use crate::blocks::Blocks;
@@ -28,16 +29,19 @@ pub(crate) fn rows_of_columns<N: Nodes>(
     requires sized { length table.now ≡ window.now.grid.w }
     requires held { HoldBlocks window.now (top_end window.now) table.now }
     requires ends { (S : Seen) → Serves (N.view nodes.old) window.now S → HoldEnds S window.now window.now.end table.now }
-    requires spans { (list : List (Option ℤ)) → ServesList (N.view nodes.old) window.now list → HoldSpans list window.now window.now.end table.now }
+    requires spans { (list : List (Option ℤ)) → ServesList (N.view nodes.old) window.now list
+        → HoldSpans list window.now window.now.end table.now }
 
     ensures fit { (N.view nodes.new).fit }
     ensures kept { N.keeps nodes.old nodes.new }
-    ensures reads { (N.view nodes.new).reads ≤ (N.view nodes.old).reads + window.now.grid.w * (2 * height window.now.axis.slots + 2 * page_levels window.now.axis.slots) }
+    ensures reads { (N.view nodes.new).reads ≤ (N.view nodes.old).reads + window.now.grid.w * (2 * height
+        window.now.axis.slots + 2 * page_levels window.now.axis.slots) }
     ensures faults { (N.view nodes.old).faults ≤ (N.view nodes.new).faults }
     ensures cause { IfErr result (IsCauseOf (N.view nodes.old) (N.view nodes.new) window.now) }
     ensures quiet { OnOk result ((N.view nodes.new).faults ≡ (N.view nodes.old).faults) }
     ensures quiet_err { IfErr result (λ e. e ≢ ScanOf.Node DiskFault → (N.view nodes.new).faults ≡ (N.view nodes.old).faults) }
-    ensures found { IfOk result (λ rows. HasColumns (N.view nodes.old) window.now window.now.grid.w keys.old.items keys.new.items rows.items) }
+    ensures found { IfOk result (λ rows. HasColumns
+        (N.view nodes.old) window.now window.now.grid.w keys.old.items keys.new.items rows.items) }
 {
     let mut rows = Vec::new(alloc);
     for column in 0..window.grid.w() {
@@ -67,16 +71,19 @@ fn add_column<N: Nodes>(
     requires drawn { column < window.now.grid.w }
     requires held { AreBlocksIfAny window.now (top_end window.now) column blocks }
     requires ends { (S : Seen) → Serves (N.view nodes.old) window.now S → AreEndsIfAny S window.now window.now.end column blocks }
-    requires spans { (list : List (Option ℤ)) → ServesList (N.view nodes.old) window.now list → IsSpanBelowIfAny list window.now window.now.end column blocks }
+    requires spans { (list : List (Option ℤ)) → ServesList (N.view nodes.old) window.now list
+        → IsSpanBelowIfAny list window.now window.now.end column blocks }
 
     ensures fit { (N.view nodes.new).fit }
     ensures kept { N.keeps nodes.old nodes.new }
-    ensures reads { (N.view nodes.new).reads ≤ (N.view nodes.old).reads + (2 * height window.now.axis.slots + 2 * page_levels window.now.axis.slots) }
+    ensures reads { (N.view nodes.new).reads ≤ (N.view nodes.old).reads + (2 * height window.now.axis.slots + 2 * page_levels
+        window.now.axis.slots) }
     ensures faults { (N.view nodes.old).faults ≤ (N.view nodes.new).faults }
     ensures cause { IfErr result (IsCauseOf (N.view nodes.old) (N.view nodes.new) window.now) }
     ensures quiet { OnOk result ((N.view nodes.new).faults ≡ (N.view nodes.old).faults) }
     ensures quiet_err { IfErr result (λ e. e ≢ ScanOf.Node DiskFault → (N.view nodes.new).faults ≡ (N.view nodes.old).faults) }
-    ensures found { OnOk result (HasColumn (N.view nodes.old) window.now column keys.old.items keys.new.items rows.old.items rows.new.items) }
+    ensures found { OnOk result (HasColumn (N.view nodes.old) window.now column keys.old.items keys.new.items rows.old.items
+        rows.new.items) }
 {
     let Some(found) = blocks else {
         return Ok(());
@@ -101,7 +108,8 @@ fn ends_of<N: Nodes>(
 
     ensures fit { (N.view nodes.new).fit }
     ensures kept { N.keeps nodes.old nodes.new }
-    ensures reads { (N.view nodes.new).reads ≤ (N.view nodes.old).reads + (2 * height window.now.axis.slots + 2 * page_levels window.now.axis.slots) }
+    ensures reads { (N.view nodes.new).reads ≤ (N.view nodes.old).reads + (2 * height window.now.axis.slots + 2 * page_levels
+        window.now.axis.slots) }
     ensures faults { (N.view nodes.old).faults ≤ (N.view nodes.new).faults }
     ensures cause { IfErr result (IsCauseOf (N.view nodes.old) (N.view nodes.new) window.now) }
     ensures quiet { OnOk result ((N.view nodes.new).faults ≡ (N.view nodes.old).faults) }

@@ -98,7 +98,8 @@ pub(crate) fn follow<N: Nodes>(
     ensures cause { IfErr result (IsCauseOf (N.view nodes.old) (N.view nodes.new) window.now) }
     ensures quiet { OnOk result ((N.view nodes.new).faults ≡ (N.view nodes.old).faults) }
     ensures quiet_err { IfErr result (λ e. e ≢ ScanOf.Node DiskFault → (N.view nodes.new).faults ≡ (N.view nodes.old).faults) }
-    ensures found { IfOk result (Follows (N.view nodes.old) (N.view nodes.new) window.now column key span sought keys.old.items keys.new.items) }
+    ensures found { IfOk result (Follows (N.view nodes.old)
+        (N.view nodes.new) window.now column key span sought keys.old.items keys.new.items) }
 {
     let Some(span) = span else {
         return Ok(nothing());

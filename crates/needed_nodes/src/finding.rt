@@ -35,7 +35,8 @@ pub(crate) fn find_blocks<N: Nodes>(
     ensures cause { IfErr result (IsCauseOf (N.view nodes.old) (N.view nodes.new) window.now) }
     ensures quiet { OnOk result ((N.view nodes.new).faults ≡ (N.view nodes.old).faults) }
     ensures quiet_err { IfErr result (λ e. e ≢ ScanOf.Node DiskFault → (N.view nodes.new).faults ≡ (N.view nodes.old).faults) }
-    ensures found { OnOk result (Finds (N.view nodes.old) (N.view nodes.new) window.now key keys.old.items keys.new.items table.old table.new) }
+    ensures found { OnOk result (Finds (N.view nodes.old)
+        (N.view nodes.new) window.now key keys.old.items keys.new.items table.old table.new) }
 {
     let Some(span) = span else {
         return Ok(());

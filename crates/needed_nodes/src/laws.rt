@@ -22,5 +22,6 @@ pub fn points_are_the_samples()
 
 /// Nodes that agree with a list on all keys agree with it for each view.
 pub fn agreeing_nodes_agree_for_views<N: Nodes>(nodes: &N)
-    ensures { (list : List (Option ℤ)) (axis : Axis) (grid : Grid) (lo hi : ℤ) → Agrees (N.view nodes.now) list → AgreesForView (N.view nodes.now) axis grid lo hi list }
+    ensures { (list : List (Option ℤ)) (axis : Axis) (grid : Grid) (lo hi : ℤ) → Agrees (N.view nodes.now) list
+        → AgreesForView (N.view nodes.now) axis grid lo hi list }
 {}

@@ -6,7 +6,8 @@ ghost use Rattle.m4_groups.specs.Rows.{AreRising};
 ghost use Rattle.view_keys.specs.Needed.{IsNeeded};
 ghost use Rattle.view_keys.specs.Wanted.{IsWanted};
 ghost use Rattle.view_keys.specs.Listed.{AreInOrder, IsListOf};
-ghost use Rattle.needed_nodes.specs.Answers.{seen_of, AgreesForView, IsEntry, IsShownRow, AreDrawnAs, IsCauseFor, most_needed, most_reads, points_of};
+ghost use Rattle.needed_nodes.specs.Answers.{seen_of, AgreesForView, IsEntry, IsShownRow, AreDrawnAs, IsCauseFor, most_needed, most_reads};
+ghost use Rattle.needed_nodes.specs.Answers.{points_of};
 ghost use Rattle.needed_nodes.specs.Serving.{IsCauseOf};
 ghost use Rattle.needed_nodes.specs.Exploring.{Explores, ExploresWindow};
 

@@ -1,5 +1,6 @@
 -- Flags: which byte one stands in, and what setting one changes.
-use Rattle.std.proofs.Common.{◌≡◌, ◌≢◌, ℕ, ◌+◌, ◌/◌, ◌%◌, ◌<◌, ◌≤◌, ◌⊎◌, inl, inr, Bool, ◌==◌, List, length, get_or, set, sym, ap, ◌∙◌, arith}
+use Rattle.std.proofs.Common.{◌≡◌, ◌≢◌, ℕ, ◌+◌, ◌/◌, ◌%◌, ◌<◌, ◌≤◌, ◌⊎◌, inl, inr, Bool, ◌==◌, List, length, get_or, set, sym, ap, ◌∙◌}
+use Rattle.std.proofs.Common.{arith}
 use Rattle.std.proofs.lemmas.Bool.{cases_order}
 use Rattle.std.proofs.lemmas.List.{get_or-set_same, get_or-set_other}
 use Rattle.std.specs.Int.{bit_at}
@@ -11,7 +12,8 @@ unfolding flag_at
 flag_same b old new same = ap (λ (byte : ℕ). bit_at byte (b % 8) == 1) same
 
 -- a byte in the place of that of flag f gives flag f by its bit
-pub flag_made : (f at made : ℕ) (page : List ℕ) (on : Bool) → at ≡ 8 + f / 8 → at < length page → (bit_at made (f % 8) == 1) ≡ on → flag_at (set page at made) f ≡ on
+pub flag_made : (f at made : ℕ) (page : List ℕ) (on : Bool) → at ≡ 8 + f / 8 → at < length page → (bit_at made (f % 8) == 1) ≡ on
+    → flag_at (set page at made) f ≡ on
 unfolding flag_at
 flag_made f at made page on place within is =
     ap (λ (j : ℕ). bit_at (get_or (set page at made) j 0) (f % 8) == 1) (sym place)
@@ -36,7 +38,8 @@ flag_other b f at made page is within other bits =
     ]
 
 -- bytes that hold no flag stay
-pub rest_other : (k f at made : ℕ) (page : List ℕ) → at ≡ 8 + f / 8 → f < 256 → (k < 8) ⊎ (40 ≤ k) → get_or (set page at made) k 0 ≡ get_or page k 0
+pub rest_other : (k f at made : ℕ) (page : List ℕ) → at ≡ 8 + f / 8 → f < 256 → (k < 8) ⊎ (40 ≤ k)
+    → get_or (set page at made) k 0 ≡ get_or page k 0
 rest_other k f at made page is low off =
     let place : k ≢ at = λ e. elim off [ inl front ↦ omega (arith, front, e, is) | inr behind ↦ omega (arith, behind, e, is, low) ] in
     get_or-set_other page at k made 0 place

@@ -1,5 +1,6 @@
 -- Pages whose fields are all 0, and which flag stands above which.
-use Rattle.std.proofs.Common.{◌≡◌, ℕ, pos, zero, suc, ◌+◌, ◌*◌, ◌/◌, ◌%◌, ◌^◌, ◌<◌, ◌≤◌, false, ◌||◌, ◌==◌, if◌then◌else◌, List, get_or, inl, inr, refl, sym, ap, ◌∙◌, arith}
+use Rattle.std.proofs.Common.{◌≡◌, ℕ, pos, zero, suc, ◌+◌, ◌*◌, ◌/◌, ◌%◌, ◌^◌, ◌<◌, ◌≤◌, false, ◌||◌, ◌==◌, if◌then◌else◌, List, get_or}
+use Rattle.std.proofs.Common.{inl, inr, refl, sym, ap, ◌∙◌, arith}
 use Rattle.std.proofs.lemmas.Bool.{cases_lt}
 use Rattle.std.specs.Int.{w64, bit_at, cast_signed}
 use Rattle.byteorder.specs.Endian.{big_from}
@@ -41,7 +42,8 @@ unfolding flag_at
 flag_blank page blank b few =
     ap (λ (x : ℕ). bit_at x (b % 8) == 1) (blank (8 + b / 8) (omega arith) (omega (arith, few))) ∙ bit_of_zero (b % 8) (omega arith)
 
-pub coef_blank : (page : List ℕ) → IsBlank page → (n : ℕ) → n < 127 → coef_at page n ≡ record { left = false; right = false; dmin = pos 0; dmax = pos 0 }
+pub coef_blank : (page : List ℕ) → IsBlank page → (n : ℕ) → n < 127
+    → coef_at page n ≡ record { left = false; right = false; dmin = pos 0; dmax = pos 0 }
 coef_blank page blank n few =
     coef_made page n false false (pos 0) (pos 0)
     (flag_blank page blank (2 * n) (omega (arith, few)))
@@ -67,7 +69,8 @@ unfolding coef_at
 right_is page n b is = ap (flag_at page) (sym is)
 
 -- a flag above a node is set exactly where one of the node's is
-pub flag_above : (page : List ℕ) → KeepsLayout page → (b : ℕ) → b < 126 → flag_at page b ≡ (flag_at page (2 * b + 2) || flag_at page (2 * b + 3))
+pub flag_above : (page : List ℕ) → KeepsLayout page → (b : ℕ) → b < 126
+    → flag_at page b ≡ (flag_at page (2 * b + 2) || flag_at page (2 * b + 3))
 flag_above page keeps b few =
     let n = b / 2 in
     elim (cases_lt (2 * n) b) [

@@ -15,7 +15,8 @@ zero_bytes (suc n) i xs none k low high =
     let rest : big_from (suc i) n xs ≡ 0 = omega (arith, none) in
     elim (cases_order k i) [
       | inl same ↦ ap (λ (j : ℕ). get_or xs j 0) same ∙ first
-      | inr differ ↦ zero_bytes n (suc i) xs rest k (elim differ [ inl less ↦ omega (arith, less, low) | inr more ↦ omega (arith, more) ]) (omega (arith, high))
+      | inr differ ↦ zero_bytes n (suc i) xs rest k (elim differ [ inl less ↦ omega (arith, less, low) | inr more ↦ omega (arith, more) ])
+          (omega (arith, high))
     ]
   where
     pow_some : (n : ℕ) → 0 < 256 ^ n
@@ -29,7 +30,8 @@ zero_bytes (suc n) i xs none k low high =
 pub no_children : (page : List ℕ) → level_at page ≡ 1 → ((k : ℕ) → 2072 ≤ k → k < 2584 → get_or page k 0 ≡ 0) → AreChildren page
 unfolding child_at number_at
 no_children page low zeros child few =
-    let none : child_at page child ≡ 0 = big_zero 4 (2072 + 4 * child) page (λ k from to. zeros k (omega (arith, from)) (omega (arith, to, few))) in
+    let none : child_at page child ≡ 0 = big_zero 4 (2072 + 4 * child) page
+    (λ k from to. zeros k (omega (arith, from)) (omega (arith, to, few))) in
     record { lowest = λ _. none; empty = λ _. none; there = λ more _ _. absurd (omega (arith, more, low)) }
 
 pub childless : (page : List ℕ) → level_at page ≡ 1 → AreChildren page → (k : ℕ) → 2072 ≤ k → k < 2584 → get_or page k 0 ≡ 0

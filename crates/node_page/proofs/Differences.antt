@@ -1,5 +1,6 @@
 -- The differences of all nodes, by their places and by the bytes of the flags.
-use Rattle.std.proofs.Common.{◌≡◌, ℕ, zero, suc, ℤ, pos, negsuc, of_z, ◌+◌, ◌*◌, ◌/◌, ◌%◌, ◌^◌, ◌<◌, ◌≤◌, min, Bool, true, false, cond, ◌&&◌, ◌==◌, List, get_or, refl, ap, subst, inl, inr, ◌∙◌, arith}
+use Rattle.std.proofs.Common.{◌≡◌, ℕ, zero, suc, ℤ, pos, negsuc, of_z, ◌+◌, ◌*◌, ◌/◌, ◌%◌, ◌^◌, ◌<◌, ◌≤◌, min, Bool, true, false, cond}
+use Rattle.std.proofs.Common.{◌&&◌, ◌==◌, List, get_or, refl, ap, subst, inl, inr, ◌∙◌, arith}
 use Rattle.std.proofs.lemmas.Bool.{eq-eqb, ne_eqb}
 use Rattle.std.proofs.lemmas.Bool.Decides.{eqb_tells}
 use Rattle.std.proofs.lemmas.Int.{ints}
@@ -23,7 +24,8 @@ bit_of_full (suc (suc (suc (suc (suc (suc (suc (suc i)))))))) few = absurd (omeg
 pub flag_of_full : (page : List ℕ) (byte flag : ℕ) → get_or page (8 + byte) 0 ≡ 255 → flag / 8 ≡ byte → flag_at page flag ≡ true
 unfolding flag_at
 flag_of_full page byte flag full is =
-    ap (λ (b : ℕ). bit_at (get_or page (8 + b) 0) (flag % 8) == 1) is ∙ ap (λ (x : ℕ). bit_at x (flag % 8) == 1) full ∙ bit_of_full (flag % 8) (omega arith)
+    ap (λ (b : ℕ). bit_at (get_or page (8 + b) 0) (flag % 8) == 1) is ∙ ap (λ (x : ℕ). bit_at x (flag % 8) == 1) full
+    ∙ bit_of_full (flag % 8) (omega arith)
 
 pub both : (left right : Bool) → left ≡ true → right ≡ true → (left && right) ≡ false → ⊥
 both true true l r half = cc (half)
@@ -34,7 +36,8 @@ both false right l r half = cc (l)
 pub four_full : (page : List ℕ) (byte n : ℕ) → get_or page (8 + byte) 0 ≡ 255 → 4 * byte ≤ n → n < 4 * byte + 4 → IsFullOrFlat page n
 unfolding coef_at
 four_full page byte n full low high half =
-    absurd (both (flag_at page (2 * n)) (flag_at page (2 * n + 1)) (flag_of_full page byte (2 * n) full (omega (arith, low, high))) (flag_of_full page byte (2 * n + 1) full (omega (arith, low, high))) half)
+    absurd (both (flag_at page (2 * n)) (flag_at page (2 * n + 1)) (flag_of_full page byte (2 * n) full (omega (arith, low, high)))
+    (flag_of_full page byte (2 * n + 1) full (omega (arith, low, high))) half)
 
 -- the differences of the last byte are the last of the eight that are looked at
 pub in_range_from : (page : List ℕ) (byte first : ℕ) → byte < 32 → first ≡ min (8 * byte) 246 → AreEightSmall page first
@@ -53,7 +56,8 @@ in_range_from page byte first within is small flat n low high few =
     }
 
 -- the same for all nodes, by all places
-pub in_range_all : (page : List ℕ) → ((place : ℕ) → place < 254 → IsTime (signed_at page (40 + 8 * place))) → ((n : ℕ) → n < 127 → IsFullOrFlat page n) → AreDifferences page
+pub in_range_all : (page : List ℕ) → ((place : ℕ) → place < 254 → IsTime (signed_at page (40 + 8 * place)))
+    → ((n : ℕ) → n < 127 → IsFullOrFlat page n) → AreDifferences page
 unfolding coef_at
 in_range_all page small flat n few =
     let second : 40 + 8 * (2 * n + 1) ≡ 40 + 16 * n + 8 = omega arith in
@@ -71,7 +75,8 @@ raised_small (pos n) r fits is few = omega (arith, ints, fits.sfits, is, few)
 raised_small (negsuc n) r fits is few = omega (arith, ints, fits.sfits, is, few)
 
 -- a place is one of a node's two
-halves : (page : List ℕ) (n rest place : ℕ) → place ≡ 2 * n + rest → rest < 2 → HasDifferences (coef_at page n) → IsTime (signed_at page (40 + 8 * place))
+halves : (page : List ℕ) (n rest place : ℕ) → place ≡ 2 * n + rest → rest < 2 → HasDifferences (coef_at page n)
+    → IsTime (signed_at page (40 + 8 * place))
 unfolding coef_at
 halves page n zero place is few has =
     let at : 40 + 16 * n ≡ 40 + 8 * place = omega (arith, is) in
@@ -91,9 +96,11 @@ unfolding coef_at
 flag_of_child page child = elim (eqb_tells (child % 2) 0) [
   | inl even ↦
       let at : 2 * (63 + child / 2) ≡ 126 + child = omega (arith, even.1) in
-      ap (λ b. cond b (flag_at page (2 * (63 + child / 2))) (flag_at page (2 * (63 + child / 2) + 1))) (eq-eqb (child % 2) 0 even.1) ∙ ap (λ n. flag_at page n) at
+      ap (λ b. cond b (flag_at page (2 * (63 + child / 2))) (flag_at page (2 * (63 + child / 2) + 1))) (eq-eqb (child % 2) 0 even.1)
+      ∙ ap (λ n. flag_at page n) at
   | inr odd ↦
       let rest : child % 2 ≡ 1 = omega (arith, odd.1) in
       let at : 2 * (63 + child / 2) + 1 ≡ 126 + child = omega (arith, rest) in
-      ap (λ b. cond b (flag_at page (2 * (63 + child / 2))) (flag_at page (2 * (63 + child / 2) + 1))) (ne_eqb (child % 2) 0 odd.1) ∙ ap (λ n. flag_at page n) at
+      ap (λ b. cond b (flag_at page (2 * (63 + child / 2))) (flag_at page (2 * (63 + child / 2) + 1))) (ne_eqb (child % 2) 0 odd.1)
+      ∙ ap (λ n. flag_at page n) at
 ]

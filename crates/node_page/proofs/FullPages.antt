@@ -1,5 +1,6 @@
 -- A page in which all flags of the nodes are set.
-use Rattle.std.proofs.Common.{◌≡◌, ℕ, zero, suc, ◌+◌, ◌*◌, ◌/◌, ◌%◌, ◌<◌, ◌≤◌, Bool, true, false, ◌||◌, ◌==◌, List, get_or, inl, inr, refl, sym, ap, ◌∙◌, arith}
+use Rattle.std.proofs.Common.{◌≡◌, ℕ, zero, suc, ◌+◌, ◌*◌, ◌/◌, ◌%◌, ◌<◌, ◌≤◌, Bool, true, false, ◌||◌, ◌==◌, List, get_or, inl, inr, refl}
+use Rattle.std.proofs.Common.{sym, ap, ◌∙◌, arith}
 use Rattle.std.proofs.lemmas.Bool.{cases_lt}
 use Rattle.std.specs.Int.{bit_at}
 use Rattle.node_page.specs.Fields.{flag_at, coef_at}
@@ -19,10 +20,12 @@ flag_in_last : (page : List ℕ) (flag : ℕ) → get_or page 39 0 ≡ 63 → 24
 unfolding flag_at
 flag_in_last page flag last low high =
     let byte : flag / 8 ≡ 31 = omega (arith, low, high) in
-    ap (λ (b : ℕ). bit_at (get_or page (8 + b) 0) (flag % 8) == 1) byte ∙ ap (λ (x : ℕ). bit_at x (flag % 8) == 1) last ∙ bit_of_last (flag % 8) (omega (arith, low, high))
+    ap (λ (b : ℕ). bit_at (get_or page (8 + b) 0) (flag % 8) == 1) byte ∙ ap (λ (x : ℕ). bit_at x (flag % 8) == 1) last
+    ∙ bit_of_last (flag % 8) (omega (arith, low, high))
 
 -- all flags of the nodes are set
-all_set : (page : List ℕ) → ((k : ℕ) → k < 31 → get_or page (8 + k) 0 ≡ 255) → get_or page 39 0 ≡ 63 → (flag : ℕ) → flag < 254 → flag_at page flag ≡ true
+all_set : (page : List ℕ) → ((k : ℕ) → k < 31 → get_or page (8 + k) 0 ≡ 255) → get_or page 39 0 ≡ 63 → (flag : ℕ) → flag < 254
+    → flag_at page flag ≡ true
 all_set page full last flag few = elim (cases_lt flag 248) [
   | inl before ↦ flag_of_full page (flag / 8) flag (full (flag / 8) (omega (arith, before))) refl
   | inr here ↦ flag_in_last page flag last here few
@@ -39,7 +42,8 @@ pub flags_of_full : (page : List ℕ) → ((k : ℕ) → k < 31 → get_or page 
 unfolding coef_at
 flags_of_full page full last =
     let set = all_set page full last in
-    let stored : (n : ℕ) → n < 127 → (flag_at page (2 * n) || flag_at page (2 * n + 1)) ≡ true = λ n few. either (flag_at page (2 * n)) (flag_at page (2 * n + 1)) (set (2 * n) (omega (arith, few))) in
+    let stored : (n : ℕ) → n < 127 → (flag_at page (2 * n) || flag_at page (2 * n + 1)) ≡ true = λ n few. either (flag_at page (2 * n))
+    (flag_at page (2 * n + 1)) (set (2 * n) (omega (arith, few))) in
     record {
       top = stored 0 (omega arith);
       left = λ n few. stored (2 * n + 1) (omega (arith, few)) ∙ sym (set (2 * n) (omega (arith, few)));
@@ -48,8 +52,10 @@ flags_of_full page full last =
       spare_odd = (spare_unset page last).1;
     }
 
-pub nodes_of_full : (page : List ℕ) → ((k : ℕ) → k < 31 → get_or page (8 + k) 0 ≡ 255) → get_or page 39 0 ≡ 63 → (n : ℕ) → n < 127 → IsFullOrFlat page n
+pub nodes_of_full : (page : List ℕ) → ((k : ℕ) → k < 31 → get_or page (8 + k) 0 ≡ 255) → get_or page 39 0 ≡ 63 → (n : ℕ) → n < 127
+    → IsFullOrFlat page n
 unfolding coef_at
 nodes_of_full page full last n few half =
     let set = all_set page full last in
-    absurd (both (flag_at page (2 * n)) (flag_at page (2 * n + 1)) (set (2 * n) (omega (arith, few))) (set (2 * n + 1) (omega (arith, few))) half)
+    absurd (both (flag_at page (2 * n)) (flag_at page (2 * n + 1)) (set (2 * n) (omega (arith, few)))
+    (set (2 * n + 1) (omega (arith, few))) half)

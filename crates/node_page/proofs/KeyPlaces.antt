@@ -124,7 +124,8 @@ one_key k l level page node =
     let node' : part b k.index ≡ part b l.index = node ∙ ap (λ (n : ℕ). part n l.index) (sym depth) in
     let rest : k.index % 2 ^ b ≡ l.index % 2 ^ b = omega (arith, node') in
     let index : k.index ≡ l.index =
-    sym (div-add-mod' k.index (2 ^ b)) ∙ ap (λ (n : ℕ). n * 2 ^ b + k.index % 2 ^ b) page' ∙ ap (λ (n : ℕ). l.index / 2 ^ b * 2 ^ b + n) rest ∙ div-add-mod' l.index (2 ^ b) in
+    sym (div-add-mod' k.index (2 ^ b)) ∙ ap (λ (n : ℕ). n * 2 ^ b + k.index % 2 ^ b) page'
+    ∙ ap (λ (n : ℕ). l.index / 2 ^ b * 2 ^ b + n) rest ∙ div-add-mod' l.index (2 ^ b) in
     same_key k l levels index
 
 -- the number of nodes of a level in a page, as it is computed in 64 bits

@@ -1,5 +1,6 @@
 -- What writing a number at an offset makes.
-use Rattle.std.proofs.Common.{◌≡◌, ◌≢◌, ℕ, ℤ, FitsSigned, of_z, ◌+◌, ◌*◌, ◌^◌, ◌<◌, ◌≤◌, ◌⊎◌, inl, inr, List, length, get_or, sym, ap, ◌∙◌, arith}
+use Rattle.std.proofs.Common.{◌≡◌, ◌≢◌, ℕ, ℤ, FitsSigned, of_z, ◌+◌, ◌*◌, ◌^◌, ◌<◌, ◌≤◌, ◌⊎◌, inl, inr, List, length, get_or, sym, ap, ◌∙◌}
+use Rattle.std.proofs.Common.{arith}
 use Rattle.std.proofs.lemmas.Bool.{cases_order}
 use Rattle.std.specs.Int.{w64, bytes_high_first, cast_signed}
 use Rattle.std.proofs.lemmas.Int.{to_z-of_z}
@@ -12,12 +13,14 @@ pub record IsPut (size x at : ℕ) (old new : List ℕ) : Type 0 where
   pub is : number_at new size at ≡ x
   pub rest : (k : ℕ) → (k < at) ⊎ (at + size ≤ k) → get_or new k 0 ≡ get_or old k 0
 
-rest_written : (size at x k : ℕ) (page : List ℕ) → at ≤ length page → (k < at) ⊎ (at + size ≤ k) → get_or (with_bytes page at (bytes_high_first size x)) k 0 ≡ get_or page k 0
+rest_written : (size at x k : ℕ) (page : List ℕ) → at ≤ length page → (k < at) ⊎ (at + size ≤ k)
+    → get_or (with_bytes page at (bytes_high_first size x)) k 0 ≡ get_or page k 0
 rest_written size at x k page within (inl before) = written_before at k page (bytes_high_first size x) within before
 rest_written size at x k page within (inr behind) =
     written_behind at k page (bytes_high_first size x) within (omega (arith, behind, length-bytes_high_first size x))
 
-pub puts : (size x at : ℕ) (old new bytes : List ℕ) → new ≡ with_bytes old at bytes → bytes ≡ bytes_high_first size x → at ≤ length old → x < 256 ^ size → IsPut size x at old new
+pub puts : (size x at : ℕ) (old new bytes : List ℕ) → new ≡ with_bytes old at bytes → bytes ≡ bytes_high_first size x → at ≤ length old
+    → x < 256 ^ size → IsPut size x at old new
 puts size x at old new bytes made are within fits =
     let all : new ≡ with_bytes old at (bytes_high_first size x) = made ∙ ap (with_bytes old at) are in
     record {
@@ -31,7 +34,8 @@ unfolding child_at
 child_is_put child x at old new place put = ap (number_at new 4) (sym place) ∙ put.is
 
 -- the other children are the same
-pub other_child : (c child x at : ℕ) (old new : List ℕ) → at ≡ 2072 + 4 * child → c ≢ child → IsPut 4 x at old new → child_at new c ≡ child_at old c
+pub other_child : (c child x at : ℕ) (old new : List ℕ) → at ≡ 2072 + 4 * child → c ≢ child → IsPut 4 x at old new
+    → child_at new c ≡ child_at old c
 unfolding child_at
 other_child c child x at old new place other put =
     number_same 4 (2072 + 4 * c) old new (λ k from to.
@@ -41,12 +45,14 @@ other_child c child x at old new place other put =
     ]))
 
 -- children depend on their bytes alone
-pub child_same : (c : ℕ) (old new : List ℕ) → c < 128 → ((k : ℕ) → 2072 ≤ k → k < 2584 → get_or new k 0 ≡ get_or old k 0) → child_at new c ≡ child_at old c
+pub child_same : (c : ℕ) (old new : List ℕ) → c < 128 → ((k : ℕ) → 2072 ≤ k → k < 2584 → get_or new k 0 ≡ get_or old k 0)
+    → child_at new c ≡ child_at old c
 unfolding child_at
 child_same c old new few same = number_same 4 (2072 + 4 * c) old new (λ k from to. same k (omega (arith, from)) (omega (arith, few, to)))
 
 -- all bytes but those of a child are the same
-pub put_rest : (child x at k : ℕ) (old new : List ℕ) → at ≡ 2072 + 4 * child → IsPut 4 x at old new → (k < 2072 + 4 * child) ⊎ (2076 + 4 * child ≤ k) → get_or new k 0 ≡ get_or old k 0
+pub put_rest : (child x at k : ℕ) (old new : List ℕ) → at ≡ 2072 + 4 * child → IsPut 4 x at old new
+    → (k < 2072 + 4 * child) ⊎ (2076 + 4 * child ≤ k) → get_or new k 0 ≡ get_or old k 0
 put_rest child x at k old new place put (inl before) = put.rest k (inl (omega (arith, before, place)))
 put_rest child x at k old new place put (inr behind) = put.rest k (inr (omega (arith, behind, place)))
 

@@ -36,7 +36,8 @@ least_same : (n : ℕ) (one other : List ℕ) → coef_at one n ≡ coef_at othe
 unfolding coef_at
 least_same n one other same = ap (λ (c : Coef). c.dmin) same
 
-greatest_same : (n : ℕ) (one other : List ℕ) → coef_at one n ≡ coef_at other n → signed_at one (40 + 16 * n + 8) ≡ signed_at other (40 + 16 * n + 8)
+greatest_same : (n : ℕ) (one other : List ℕ) → coef_at one n ≡ coef_at other n
+    → signed_at one (40 + 16 * n + 8) ≡ signed_at other (40 + 16 * n + 8)
 unfolding coef_at
 greatest_same n one other same = ap (λ (c : Coef). c.dmax) same
 
@@ -61,7 +62,8 @@ every_flag b one other alike low = elim (cases_lt b 254) [
   ]
 ]
 
-flag_bit : (k i b : ℕ) (one other : List ℕ) → 8 + b / 8 ≡ k → b % 8 ≡ i → flag_at one b ≡ flag_at other b → bit_at (get_or one k 0) i ≡ bit_at (get_or other k 0) i
+flag_bit : (k i b : ℕ) (one other : List ℕ) → 8 + b / 8 ≡ k → b % 8 ≡ i → flag_at one b ≡ flag_at other b
+    → bit_at (get_or one k 0) i ≡ bit_at (get_or other k 0) i
 unfolding flag_at
 flag_bit k i b one other byte bit same =
     let moved : bit_at (get_or one (8 + b / 8) 0) (b % 8) ≡ bit_at (get_or other (8 + b / 8) 0) (b % 8) =
@@ -80,15 +82,18 @@ difference_byte k one other alike low high =
     let n = (k - 40) / 16 in
     let coef : coef_at one n ≡ coef_at other n = alike.coefs n (omega (arith, low, high)) in
     elim (cases_lt k (40 + 16 * n + 8)) [
-      | inl least ↦ signed_bytes (40 + 16 * n) one other alike.fits alike.fits' (least_same n one other coef) k (omega (arith, low)) (omega (arith, least))
-      | inr greatest ↦ signed_bytes (40 + 16 * n + 8) one other alike.fits alike.fits' (greatest_same n one other coef) k greatest (omega (arith, low))
+      | inl least ↦ signed_bytes (40 + 16 * n) one other alike.fits alike.fits' (least_same n one other coef) k (omega (arith, low))
+          (omega (arith, least))
+      | inr greatest ↦ signed_bytes (40 + 16 * n + 8) one other alike.fits alike.fits' (greatest_same n one other coef) k greatest
+          (omega (arith, low))
     ]
 
 child_byte : (k : ℕ) (one other : List ℕ) → AreAlike one other → 2072 ≤ k → k < 2584 → get_or one k 0 ≡ get_or other k 0
 unfolding child_at
 child_byte k one other alike low high =
     let c = (k - 2072) / 4 in
-    number_bytes 4 (2072 + 4 * c) one other alike.fits alike.fits' (alike.children c (omega (arith, low, high))) k (omega (arith, low)) (omega (arith, low))
+    number_bytes 4 (2072 + 4 * c) one other alike.fits alike.fits' (alike.children c (omega (arith, low, high))) k (omega (arith, low))
+    (omega (arith, low))
 
 front_byte : (k : ℕ) (one other : List ℕ) → AreAlike one other → k < 8 → get_or one k 0 ≡ get_or other k 0
 unfolding level_at

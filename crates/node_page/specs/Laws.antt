@@ -8,6 +8,8 @@ use Rattle.node_page.specs.Layout.{KeepsLayout}
 abbrev pub PagesAreTheirFields : Type 0
 PagesAreTheirFields =
     (one other : List ℕ)
-    → IsBlock one → IsBlock other → ((k : ℕ) → slice_index one k < 256) → ((k : ℕ) → slice_index other k < 256) → KeepsLayout one → KeepsLayout other
-    → level_at one ≡ level_at other → ((n : ℕ) → n < 127 → coef_at one n ≡ coef_at other n) → ((c : ℕ) → c < 128 → child_at one c ≡ child_at other c)
+    → IsBlock one → IsBlock other → ((k : ℕ) → slice_index one k < 256) → ((k : ℕ) → slice_index other k < 256) → KeepsLayout one
+    → KeepsLayout other
+    → level_at one ≡ level_at other → ((n : ℕ) → n < 127 → coef_at one n ≡ coef_at other n)
+    → ((c : ℕ) → c < 128 → child_at one c ≡ child_at other c)
     → one ≡ other

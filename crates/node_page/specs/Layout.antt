@@ -1,5 +1,6 @@
 -- The rules of a tree page's fields, in the order in which they are named.
-use Rattle.std.specs.Prelude.{ℕ, ◌≡◌, ◌+◌, ◌*◌, ◌/◌, ◌%◌, ◌<◌, ◌≤◌, ◌⊎◌, ◌==◌, Bool, true, false, ◌&&◌, ◌||◌, if◌then◌else◌, List, slice_index}
+use Rattle.std.specs.Prelude.{ℕ, ◌≡◌, ◌+◌, ◌*◌, ◌/◌, ◌%◌, ◌<◌, ◌≤◌, ◌⊎◌, ◌==◌, Bool, true, false, ◌&&◌, ◌||◌, if◌then◌else◌, List}
+use Rattle.std.specs.Prelude.{slice_index}
 use Rattle.whole_number.specs.Range.{IsTime}
 use Rattle.block_disk.specs.Blocks.{block_size}
 use Rattle.om3_coeff.specs.declared.coef.Coef.{Coef}
@@ -36,7 +37,8 @@ pub record AreFlags (page : List ℕ) : Type 0 where
 
 -- the same of one node and those below it
 abbrev pub IsAgreed : List ℕ → ℕ → Type 0
-IsAgreed page n = (has_value (coef_at page (2 * n + 1)) ≡ (coef_at page n).left) × (has_value (coef_at page (2 * n + 2)) ≡ (coef_at page n).right)
+IsAgreed page n = (has_value (coef_at page (2 * n + 1)) ≡ (coef_at page n).left)
+    × (has_value (coef_at page (2 * n + 2)) ≡ (coef_at page n).right)
 
 -- differences are at most 2 * 10^18 in size, and 0 beside fewer than two flags
 pub record HasDifferences (c : Coef) : Type 0 where

@@ -13,7 +13,8 @@ abbrev pub IsBytes : List ℕ → Type 0
 IsBytes bytes = (k : ℕ) → get_or bytes k 0 < 256
 
 -- the same number in so many bytes has the same bytes
-big_bytes : (n i : ℕ) (xs ys : List ℕ) → IsBytes xs → IsBytes ys → big_from i n xs ≡ big_from i n ys → (k : ℕ) → i ≤ k → k < i + n → get_or xs k 0 ≡ get_or ys k 0
+big_bytes : (n i : ℕ) (xs ys : List ℕ) → IsBytes xs → IsBytes ys → big_from i n xs ≡ big_from i n ys → (k : ℕ) → i ≤ k → k < i + n
+    → get_or xs k 0 ≡ get_or ys k 0
 big_bytes zero i xs ys fits fits' same k low high = absurd (omega (arith, low, high))
 big_bytes (suc n) i xs ys fits fits' same k low high =
     let w = 256 ^ n in
@@ -32,7 +33,8 @@ big_bytes (suc n) i xs ys fits fits' same k low high =
           ap (λ (j : ℕ). get_or xs j 0) here ∙ head ∙ ap (λ (j : ℕ). get_or ys j 0) (sym here)
     ]
 
-pub number_bytes : (size at : ℕ) (one other : List ℕ) → IsBytes one → IsBytes other → number_at one size at ≡ number_at other size at → (k : ℕ) → at ≤ k → k < at + size → get_or one k 0 ≡ get_or other k 0
+pub number_bytes : (size at : ℕ) (one other : List ℕ) → IsBytes one → IsBytes other → number_at one size at ≡ number_at other size at
+    → (k : ℕ) → at ≤ k → k < at + size → get_or one k 0 ≡ get_or other k 0
 unfolding number_at
 number_bytes size at one other fits fits' same = big_bytes size at one other fits fits' same
 
@@ -40,7 +42,8 @@ pub number_below : (size at : ℕ) (page : List ℕ) → IsBytes page → number
 unfolding number_at
 number_below size at page fits = big_from-lt at size page fits
 
-pub signed_bytes : (at : ℕ) (one other : List ℕ) → IsBytes one → IsBytes other → signed_at one at ≡ signed_at other at → (k : ℕ) → at ≤ k → k < at + 8 → get_or one k 0 ≡ get_or other k 0
+pub signed_bytes : (at : ℕ) (one other : List ℕ) → IsBytes one → IsBytes other → signed_at one at ≡ signed_at other at → (k : ℕ) → at ≤ k
+    → k < at + 8 → get_or one k 0 ≡ get_or other k 0
 unfolding signed_at
 signed_bytes at one other fits fits' same =
     let x = number_at one 8 at in

@@ -17,7 +17,8 @@ pub fn pages_are_their_fields()
 /// The flag above node n is flag n - 1, and that above child c is flag 126 + c: in a page that keeps the
 /// layout a flag above a node is set exactly where one of the node's two is.
 pub fn flags_are_a_heap()
-    ensures nodes { (page : List ℕ) → KeepsLayout page → (b : ℕ) → b < 126 → flag_at page b ≡ (flag_at page (2 * b + 2) || flag_at page (2 * b + 3)) }
+    ensures nodes { (page : List ℕ) → KeepsLayout page → (b : ℕ) → b < 126
+        → flag_at page b ≡ (flag_at page (2 * b + 2) || flag_at page (2 * b + 3)) }
     ensures children { (page : List ℕ) (c : ℕ) → has_child page c ≡ flag_at page (126 + c) }
 {}
 
@@ -39,10 +40,12 @@ pub fn keys_have_their_nodes()
         → page_index k ≡ page_index l → node_number k ≡ node_number l → k ≡ l }
     ensures every_node { (p q n : ℕ) → 1 ≤ p → n < 127
         → ((k : Key) × (1 ≤ k.level) × (page_level k.level ≡ p) × (page_index k ≡ q) × (node_number k ≡ n)) }
-    ensures top_node { (k : Key) (p : ℕ) → k.level ≡ 7 * p → 1 ≤ p → (page_level k.level ≡ p) × (page_index k ≡ k.index) × (node_number k ≡ 0) }
+    ensures top_node { (k : Key) (p : ℕ) → k.level ≡ 7 * p → 1 ≤ p → (page_level k.level ≡ p) × (page_index k ≡ k.index)
+        × (node_number k ≡ 0) }
     ensures same_page { (k : Key) → 1 ≤ k.level → page_level (suc k.level) ≡ page_level k.level → page_index (parent_of k) ≡ page_index k }
     ensures node_below { (k : Key) → 1 ≤ k.level → page_level (suc k.level) ≡ page_level k.level
         → node_number k ≡ 2 * node_number (parent_of k) + 1 + k.index % 2 }
     ensures page_above { (k : Key) (p : ℕ) → k.level ≡ 7 * p → 1 ≤ p
-        → (page_level (suc k.level) ≡ suc p) × (page_index (parent_of k) ≡ k.index / 128) × (node_number (parent_of k) ≡ 63 + k.index % 128 / 2) }
+        → (page_level (suc k.level) ≡ suc p) × (page_index (parent_of k) ≡ k.index / 128)
+        × (node_number (parent_of k) ≡ 63 + k.index % 128 / 2) }
 {}

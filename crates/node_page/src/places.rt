@@ -1,6 +1,7 @@
 //! Where the node of a key stands.
 ghost use Rattle.std.specs.Prelude.{◌≡◌, ◌≤◌, ◌<◌};
-ghost use Rattle.node_page.specs.Places.{page_level as level_of_page, below_top as depth_in_page, page_index as index_of_page, node_number as number_of_node};
+ghost use Rattle.node_page.specs.Places.{page_level as level_of_page, below_top as depth_in_page, page_index as index_of_page};
+ghost use Rattle.node_page.specs.Places.{node_number as number_of_node};
 
 use om3_coeff::Key;
 

@@ -3,7 +3,8 @@ ghost use Rattle.std.specs.Prelude.{◌≡◌, ◌<◌, ◌≤◌, ◌+◌, ◌*
 ghost use Rattle.block_disk.specs.Blocks.{block_size, IsBlock};
 ghost use Rattle.whole_number.specs.Range.{IsTime};
 ghost use Rattle.node_page.specs.Fields.{level_at, signed_at, coef_at};
-ghost use Rattle.node_page.specs.Layout.{IsLevel, IsReserved, AreFlags, IsAgreed, AreDifferences, AreEightSmall, AreFourInRange, IsFullOrFlat, IsChild, AreChildren, has_child, has_value};
+ghost use Rattle.node_page.specs.Layout.{IsLevel, IsReserved, AreFlags, IsAgreed, AreDifferences, AreEightSmall, AreFourInRange};
+ghost use Rattle.node_page.specs.Layout.{IsFullOrFlat, IsChild, AreChildren, has_child, has_value};
 
 use crate::byte_fields::are_zero;
 use crate::fields::{child_of, difference_at, is_set};

@@ -105,7 +105,8 @@ pub record AreParts (s : Span) (c : Coef) (left right : Option Span) : Type 0 wh
   pub whole : hull left right ≡ Some s
   pub coef : coef_of left right ≡ c
 
-parts_of_pair : (s : Span) (c : Coef) (a b left right : Option Span) → Some (let p : Option Span × Option Span = (a, b) in p) ≡ Some (left, right)
+parts_of_pair : (s : Span) (c : Coef) (a b left right : Option Span)
+    → Some (let p : Option Span × Option Span = (a, b) in p) ≡ Some (left, right)
     → AreParts s c a b → AreParts s c left right
 parts_of_pair s c a b left right e h =
     let pair : (let p : Option Span × Option Span = (a, b) in p) ≡ (left, right) = same_Some _ _ e in
@@ -153,7 +154,8 @@ by_parts true true s c left right el er e =
     let pair : Option Span × Option Span = (Some (left_part s c), Some (right_part s c)) in
     let test : Bool = is_proper (left_part s c) && is_proper (right_part s c) in
     let h : (test ≡ true) × (pair ≡ (left, right)) = cond_some test pair (left, right) e in
-    let good : (is_proper (left_part s c) ≡ true) × (is_proper (right_part s c) ≡ true) = both_true (is_proper (left_part s c)) (is_proper (right_part s c)) h.0 in
+    let good : (is_proper (left_part s c) ≡ true) × (is_proper (right_part s c) ≡ true) = both_true (is_proper (left_part s c))
+    (is_proper (right_part s c)) h.0 in
     parts_of_pair s c (Some (left_part s c)) (Some (right_part s c)) left right (ap (λ p. Some p) h.1) (record {
       left_proper = proper_is (left_part s c) good.0;
       right_proper = proper_is (right_part s c) good.1;
@@ -248,24 +250,28 @@ module _ (s t : Span) (low : IsValue s.min → s.min ≡ t.min) (low_back : IsVa
   none_of false e f = refl
 
   proper_alike : (b : Bool) → is_proper s ≡ b → cond b (Some s) None ≡ proper_only t
-  proper_alike true e = ap₂ (λ (a : Bool) (x : Span). cond a (Some x) None) (sym e ∙ ap is_proper (same_from (proper_is s e))) (same_from (proper_is s e))
+  proper_alike true e = ap₂ (λ (a : Bool) (x : Span). cond a (Some x) None) (sym e
+      ∙ ap is_proper (same_from (proper_is s e))) (same_from (proper_is s e))
   proper_alike false e = none_of (is_proper t) refl e
 
 -- a part whose ends were answered is the exact one
-pub part_is : (low high : ℤ) (t : Span) → (IsValue low → low ≡ t.min) → (IsValue t.min → low ≡ t.min) → (IsValue high → high ≡ t.max) → (IsValue t.max → high ≡ t.max)
+pub part_is : (low high : ℤ) (t : Span) → (IsValue low → low ≡ t.min) → (IsValue t.min → low ≡ t.min) → (IsValue high → high ≡ t.max)
+    → (IsValue t.max → high ≡ t.max)
     → proper_only (record { min = low; max = high }) ≡ proper_only t
 part_is low high t a b c d =
     let s : Span = record { min = low; max = high } in
     proper_alike s t a b c d (is_proper s) refl
 
 -- the code's parts
-both_proper : (a b : Bool) (l r : Span) → cond (is_some (cond a (Some l) None) && is_some (cond b (Some r) None)) (Some (let p : Option Span × Option Span = (cond a (Some l) None, cond b (Some r) None) in p)) None
+both_proper : (a b : Bool) (l r : Span) → cond (is_some (cond a (Some l) None)
+    && is_some (cond b (Some r) None)) (Some (let p : Option Span × Option Span = (cond a (Some l) None, cond b (Some r) None) in p)) None
     ≡ cond (a && b) (Some (let p : Option Span × Option Span = (Some l, Some r) in p)) None
 both_proper true true l r = refl
 both_proper true false l r = refl
 both_proper false b l r = refl
 
-pub parts_both : (s : Span) (c : Coef) (l r : Option Span) → c.left ≡ true → c.right ≡ true → l ≡ proper_only (left_part s c) → r ≡ proper_only (right_part s c)
+pub parts_both : (s : Span) (c : Coef) (l r : Option Span) → c.left ≡ true → c.right ≡ true → l ≡ proper_only (left_part s c)
+    → r ≡ proper_only (right_part s c)
     → cond (is_some l && is_some r) (Some (let p : Option Span × Option Span = (l, r) in p)) None ≡ parts s c
 unfolding parts
 parts_both s c l r el er e f =
@@ -273,17 +279,20 @@ parts_both s c l r el er e f =
     ∙ both_proper (is_proper (left_part s c)) (is_proper (right_part s c)) (left_part s c) (right_part s c)
     ∙ sym (ap₂ (λ (a b : Bool). parts_by a b s c) el er)
 
-left_cond : (b : Bool) (s : Span) → cond (is_some (cond b (Some s) None)) (Some (let p : Option Span × Option Span = (cond b (Some s) None, None) in p)) None
+left_cond : (b : Bool) (s : Span) → cond (is_some (cond b (Some s) None))
+    (Some (let p : Option Span × Option Span = (cond b (Some s) None, None) in p)) None
     ≡ cond b (Some (let p : Option Span × Option Span = (Some s, None) in p)) None
 left_cond true s = refl
 left_cond false s = refl
 
-right_cond : (b : Bool) (s : Span) → cond (is_some (cond b (Some s) None)) (Some (let p : Option Span × Option Span = (None, cond b (Some s) None) in p)) None
+right_cond : (b : Bool) (s : Span) → cond (is_some (cond b (Some s) None))
+    (Some (let p : Option Span × Option Span = (None, cond b (Some s) None) in p)) None
     ≡ cond b (Some (let p : Option Span × Option Span = (None, Some s) in p)) None
 right_cond true s = refl
 right_cond false s = refl
 
-pub parts_left : (s : Span) (c : Coef) (l : Option Span) → c.left ≡ true → c.right ≡ false → l ≡ cond (is_flat c && is_proper s) (Some s) None
+pub parts_left : (s : Span) (c : Coef) (l : Option Span) → c.left ≡ true → c.right ≡ false
+    → l ≡ cond (is_flat c && is_proper s) (Some s) None
     → cond (is_some l) (Some (let p : Option Span × Option Span = (l, None) in p)) None ≡ parts s c
 unfolding parts
 parts_left s c l el er e =
@@ -291,7 +300,8 @@ parts_left s c l el er e =
     ∙ left_cond (is_flat c && is_proper s) s
     ∙ sym (ap₂ (λ (a b : Bool). parts_by a b s c) el er)
 
-pub parts_right : (s : Span) (c : Coef) (r : Option Span) → c.left ≡ false → c.right ≡ true → r ≡ cond (is_flat c && is_proper s) (Some s) None
+pub parts_right : (s : Span) (c : Coef) (r : Option Span) → c.left ≡ false → c.right ≡ true
+    → r ≡ cond (is_flat c && is_proper s) (Some s) None
     → cond (is_some r) (Some (let p : Option Span × Option Span = (None, r) in p)) None ≡ parts s c
 unfolding parts
 parts_right s c r el er e =
@@ -304,38 +314,46 @@ unfolding parts
 parts_neither s c el er = sym (ap₂ (λ (a b : Bool). parts_by a b s c) el er)
 
 -- what a split answers
-err_bad : {E : Type 0} (p : Option (Option Span × Option Span)) (err : E) (s : Span) (c : Coef) → p ≡ parts s c → (IsErr (ok_or p err) → IsBad s c) × (IsBad s c → IsErr (ok_or p err))
+err_bad : {E : Type 0} (p : Option (Option Span × Option Span)) (err : E) (s : Span) (c : Coef) → p ≡ parts s c
+    → (IsErr (ok_or p err) → IsBad s c) × (IsBad s c → IsErr (ok_or p err))
 err_bad None err s c e = (λ h. no_parts s c (sym e), λ h. refl)
 err_bad (Some p) err s c e = (λ h. absurd (cc), λ h. absurd (cc (bad_parts s c h)))
 
-pub split_bad : {E : Type 0} (p : Option (Option Span × Option Span)) (err : E) (r : Result (Option Span × Option Span) E) (s : Span) (c : Coef) → p ≡ parts s c → r ≡ ok_or p err
+pub split_bad : {E : Type 0} (p : Option (Option Span × Option Span)) (err : E) (r : Result (Option Span × Option Span) E) (s : Span)
+    (c : Coef) → p ≡ parts s c → r ≡ ok_or p err
     → (IsErr r → IsBad s c) × (IsBad s c → IsErr r)
 split_bad {E} p err r s c e f =
     let P : Result (Option Span × Option Span) E → Type 0 = λ r. (IsErr r → IsBad s c) × (IsBad s c → IsErr r) in
     subst P (sym f) (err_bad p err s c e)
 
-ok_parts : {E : Type 0} (p : Option (Option Span × Option Span)) (err : E) (s : Span) (c : Coef) → p ≡ parts s c → IfOk (ok_or p err) (λ halves. AreParts s c halves.0 halves.1)
+ok_parts : {E : Type 0} (p : Option (Option Span × Option Span)) (err : E) (s : Span) (c : Coef) → p ≡ parts s c
+    → IfOk (ok_or p err) (λ halves. AreParts s c halves.0 halves.1)
 ok_parts None err s c e = tt
 ok_parts (Some p) err s c e = parts_are s c p.0 p.1 (sym e)
 
-pub split_parts : {E : Type 0} (p : Option (Option Span × Option Span)) (err : E) (r : Result (Option Span × Option Span) E) (s : Span) (c : Coef) → p ≡ parts s c → r ≡ ok_or p err
+pub split_parts : {E : Type 0} (p : Option (Option Span × Option Span)) (err : E) (r : Result (Option Span × Option Span) E) (s : Span)
+    (c : Coef) → p ≡ parts s c → r ≡ ok_or p err
     → IfOk r (λ halves. AreParts s c halves.0 halves.1)
 split_parts {E} p err r s c e f =
     let P : Result (Option Span × Option Span) E → Type 0 = λ r. IfOk r (λ halves. AreParts s c halves.0 halves.1) in
     subst P (sym f) (ok_parts p err s c e)
 
-pub split_joined : {E : Type 0} (p : Option (Option Span × Option Span)) (err : E) (r : Result (Option Span × Option Span) E) (s : Span) (c : Coef) (left right : Option Span)
-    → p ≡ parts s c → r ≡ ok_or p err → IsProperIfAny left → IsProperIfAny right → c ≡ coef_of left right → ◌≡◌ {A = Option Span} (Some s) (hull left right) → r ≡ Ok (left, right)
+pub split_joined : {E : Type 0} (p : Option (Option Span × Option Span)) (err : E) (r : Result (Option Span × Option Span) E) (s : Span)
+    (c : Coef) (left right : Option Span)
+    → p ≡ parts s c → r ≡ ok_or p err → IsProperIfAny left → IsProperIfAny right → c ≡ coef_of left right
+    → ◌≡◌ {A = Option Span} (Some s) (hull left right) → r ≡ Ok (left, right)
 split_joined p err r s c left right e f pl pr same whole =
     f ∙ ap (λ p. ok_or p err) (e ∙ ap (parts s) same ∙ parts_joined left right s pl pr (sym whole))
 
-pub split_proper : {E : Type 0} (p : Option (Option Span × Option Span)) (err : E) (r : Result (Option Span × Option Span) E) (s : Span) (c : Coef) → p ≡ parts s c → r ≡ ok_or p err
+pub split_proper : {E : Type 0} (p : Option (Option Span × Option Span)) (err : E) (r : Result (Option Span × Option Span) E) (s : Span)
+    (c : Coef) → p ≡ parts s c → r ≡ ok_or p err
     → IfOk r (λ halves. IsProperIfAny halves.0 × IsProperIfAny halves.1)
 split_proper p err r s c e f =
     IfOk-weaker r (λ halves. AreParts s c halves.0 halves.1) (λ halves. IsProperIfAny halves.0 × IsProperIfAny halves.1)
     (λ halves h. (h.left_proper, h.right_proper)) (split_parts p err r s c e f)
 
-pub split_whole : {E : Type 0} (p : Option (Option Span × Option Span)) (err : E) (r : Result (Option Span × Option Span) E) (s : Span) (c : Coef) → p ≡ parts s c → r ≡ ok_or p err
+pub split_whole : {E : Type 0} (p : Option (Option Span × Option Span)) (err : E) (r : Result (Option Span × Option Span) E) (s : Span)
+    (c : Coef) → p ≡ parts s c → r ≡ ok_or p err
     → IfOk r (λ halves. hull halves.0 halves.1 ≡ Some s)
 split_whole p err r s c e f =
     IfOk-weaker r (λ halves. AreParts s c halves.0 halves.1) (λ halves. hull halves.0 halves.1 ≡ Some s)

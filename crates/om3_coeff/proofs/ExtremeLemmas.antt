@@ -1,4 +1,5 @@
-use Rattle.std.proofs.Common.{ℕ, zero, suc, ℤ, ◌≡◌, ◌+◌, ◌-◌, ◌<◌, ◌≤◌, ◌≤ℤ◌, List, [], ◌∷◌, ◌++◌, take, drop, refl, sym, ◌∙◌, ap, ap₂, subst, arith}
+use Rattle.std.proofs.Common.{ℕ, zero, suc, ℤ, ◌≡◌, ◌+◌, ◌-◌, ◌<◌, ◌≤◌, ◌≤ℤ◌, List, [], ◌∷◌, ◌++◌, take, drop, refl, sym, ◌∙◌, ap, ap₂}
+use Rattle.std.proofs.Common.{subst, arith}
 use Rattle.std.proofs.lemmas.Int.{ints, clamps, by_lt_z}
 use Rattle.std.proofs.lemmas.Option.{same_Some}
 use Rattle.std.specs.Prelude.{Option, Some, None, IfSome, slice_get}
@@ -123,9 +124,19 @@ one_span list a b None (Some t) h k = absurd (h k.least.slot t.min k.least.low k
 one_span list a b (Some s) None h k = absurd (k h.least.slot s.min h.least.low h.least.high h.least.holds)
 one_span list a b (Some s) (Some t) h k =
     let least : s.min ≡ t.min =
-    omega (arith, ints, h.above k.least.slot t.min k.least.low k.least.high k.least.holds, k.above h.least.slot s.min h.least.low h.least.high h.least.holds) in
+    omega (
+      arith,
+      ints,
+      h.above k.least.slot t.min k.least.low k.least.high k.least.holds,
+      k.above h.least.slot s.min h.least.low h.least.high h.least.holds,
+    ) in
     let greatest : s.max ≡ t.max =
-    omega (arith, ints, h.below k.greatest.slot t.max k.greatest.low k.greatest.high k.greatest.holds, k.below h.greatest.slot s.max h.greatest.low h.greatest.high h.greatest.holds) in
+    omega (
+      arith,
+      ints,
+      h.below k.greatest.slot t.max k.greatest.low k.greatest.high k.greatest.holds,
+      k.below h.greatest.slot s.max h.greatest.low h.greatest.high h.greatest.holds,
+    ) in
     ap₂ (λ (min max : ℤ). Some (let r : Span = record { min = min; max = max } in r)) least greatest
 
 proper_if : (list : List (Option ℤ)) (a b : ℕ) (s : Option Span) → AreSlots list → IsSpanOf list a b s → IsProperIfAny s
@@ -150,6 +161,7 @@ clear-none list a b clear = one_span list a b (span_over list a b) None (span_ov
 
 -- one slot more
 pub slots-push : (list : List (Option ℤ)) (x : Option ℤ) → AreSlots list → IfSome x IsValue → AreSlots (list ++ x ∷ [])
-slots-push [] x slots value = each_slot x [] IsValue (λ v e. let P : Option ℤ → Type 0 = λ x. IfSome x IsValue in subst P e value) (λ i v h. absurd (cc))
+slots-push [] x slots value = each_slot x [] IsValue (λ v e. let P : Option ℤ → Type 0 = λ x. IfSome x IsValue in
+    subst P e value) (λ i v h. absurd (cc))
 slots-push (y ∷ list) x slots value =
     each_slot y (list ++ x ∷ []) IsValue (λ v e. slots 0 v (ap (λ y. Some y) e)) (slots-push list x (λ i v h. slots (suc i) v h) value)

@@ -1,4 +1,5 @@
-use Rattle.std.proofs.Common.{ℕ, zero, suc, ℤ, ◌≡◌, ◌+◌, ◌-◌, ◌*◌, ◌/◌, ◌%◌, ◌^◌, ◌<◌, ◌≤◌, ◌⊎◌, inl, inr, cond, List, length, refl, sym, ◌∙◌, ap, ap₂, subst, arith}
+use Rattle.std.proofs.Common.{ℕ, zero, suc, ℤ, ◌≡◌, ◌+◌, ◌-◌, ◌*◌, ◌/◌, ◌%◌, ◌^◌, ◌<◌, ◌≤◌, ◌⊎◌, inl, inr, cond, List, length, refl, sym}
+use Rattle.std.proofs.Common.{◌∙◌, ap, ap₂, subst, arith}
 use Rattle.std.proofs.lemmas.Bool.{cases_lt}
 use Rattle.std.proofs.lemmas.Nat.{mod_below, shr-shr}
 use Rattle.std.proofs.Math.Nat.{div-one}
@@ -16,7 +17,8 @@ use Rattle.om3_coeff.specs.View.{NodesView, Agrees, known_of}
 use Rattle.om3_coeff.specs.Walks.{IsReached}
 use Rattle.om3_coeff.proofs.ExtremeLemmas.{span_over-proper}
 use Rattle.om3_coeff.proofs.CoefLemmas.{AreParts, parts_joined, parts_are}
-use Rattle.om3_coeff.proofs.KeyLemmas.{span_halves, even_half, odd_half, left_parent, right_parent, parent_above, above_on, parent_within, same_key, left_key, right_key}
+use Rattle.om3_coeff.proofs.KeyLemmas.{span_halves, even_half, odd_half, left_parent, right_parent, parent_above, above_on, parent_within}
+use Rattle.om3_coeff.proofs.KeyLemmas.{same_key, left_key, right_key}
 
 -- the top has the root's span
 pub known_top : (root : Option Span) (told : Key → Option Coef) (n : ℕ) → known root told (height n) (top_key n) ≡ Some root
@@ -51,32 +53,37 @@ half_proper index left right pl pr =
       | inr odd ↦ subst P (sym (odd_is index (left, right) odd)) pr
     ]
 
-below_parts : (index : ℕ) (s : Span) (c : Coef) (p : Option (Option Span × Option Span)) → parts s c ≡ p → IfSome (option_map (half index) p) IsProperIfAny
+below_parts : (index : ℕ) (s : Span) (c : Coef) (p : Option (Option Span × Option Span)) → parts s c ≡ p
+    → IfSome (option_map (half index) p) IsProperIfAny
 below_parts index s c None e = tt
 below_parts index s c (Some p) e =
     let h : AreParts s c p.0 p.1 = parts_are s c p.0 p.1 e in half_proper index p.0 p.1 h.left_proper h.right_proper
 
-below_proper : (index : ℕ) (k : Option (Option Span)) (c : Option Coef) → IfSome k IsProperIfAny → IfSome (known_below index k c) IsProperIfAny
+below_proper : (index : ℕ) (k : Option (Option Span)) (c : Option Coef) → IfSome k IsProperIfAny
+    → IfSome (known_below index k c) IsProperIfAny
 below_proper index None c h = tt
 below_proper index (Some None) c h = tt
 below_proper index (Some (Some s)) None h = tt
 below_proper index (Some (Some s)) (Some c) h = below_parts index s c (parts s c) refl
 
-from_proper : (root : Option Span) (told : Key → Option Coef) (depth level index : ℕ) → IsProperIfAny root → IfSome (known_from root told depth level index) IsProperIfAny
+from_proper : (root : Option Span) (told : Key → Option Coef) (depth level index : ℕ) → IsProperIfAny root
+    → IfSome (known_from root told depth level index) IsProperIfAny
 unfolding known_from
 from_proper root told zero level index proper = proper
 from_proper root told (suc depth) level index proper =
     below_proper index (known_from root told depth (suc level) (index / 2)) (told (record { level = suc level; index = index / 2 }))
     (from_proper root told depth (suc level) (index / 2) proper)
 
-pub known_proper : (root : Option Span) (told : Key → Option Coef) (top : ℕ) (k : Key) → IsProperIfAny root → IfSome (known root told top k) IsProperIfAny
+pub known_proper : (root : Option Span) (told : Key → Option Coef) (top : ℕ) (k : Key) → IsProperIfAny root
+    → IfSome (known root told top k) IsProperIfAny
 known_proper root told top k proper = from_proper root told (top - k.level) k.level k.index proper
 
 -- below a key that has no span none has one
 below_none : (index : ℕ) (k : Option (Option Span)) (c : Option Coef) → k ≡ Some None → known_below index k c ≡ Some None
 below_none index k c e = ap (λ k. known_below index k c) e
 
-clear_from : (root : Option Span) (told : Key → Option Coef) (top gap : ℕ) (w k : Key) → w.level ≤ top → w.level ≡ k.level + gap → k.index / 2 ^ gap ≡ w.index
+clear_from : (root : Option Span) (told : Key → Option Coef) (top gap : ℕ) (w k : Key) → w.level ≤ top → w.level ≡ k.level + gap
+    → k.index / 2 ^ gap ≡ w.index
     → known root told top w ≡ Some None → known root told top k ≡ Some None
 clear_from root told top zero w k high levels place clear =
     let P : Key → Type 0 = λ k. known root told top k ≡ Some None in
@@ -100,7 +107,8 @@ hull_none None b e = (refl, e)
 hull_none (Some a) None e = absurd (cc)
 hull_none (Some a) (Some b) e = absurd (cc)
 
-by_half : (P : Option Span → Type 0) (list : List (Option ℤ)) (k : Key) → (k.index % 2 ≡ 0 → P (span list (left_of (parent_of k)))) → (k.index % 2 ≡ 1 → P (span list (right_of (parent_of k))))
+by_half : (P : Option Span → Type 0) (list : List (Option ℤ)) (k : Key) → (k.index % 2 ≡ 0 → P (span list (left_of (parent_of k))))
+    → (k.index % 2 ≡ 1 → P (span list (right_of (parent_of k))))
     → P (span list k)
 by_half P list k left right =
     let Q : Key → Type 0 = λ k. P (span list k) in
@@ -115,7 +123,8 @@ parent_low k = omega arith
 none_half : (list : List (Option ℤ)) (k : Key) → span list (parent_of k) ≡ None → span list k ≡ None
 none_half list k none =
     let both : (span list (left_of (parent_of k)) ≡ None) × (span list (right_of (parent_of k)) ≡ None) =
-    hull_none (span list (left_of (parent_of k))) (span list (right_of (parent_of k))) (sym (span_halves list (parent_of k) (parent_low k)) ∙ none) in
+    hull_none (span list (left_of (parent_of k))) (span list (right_of (parent_of k))) (sym (span_halves list (parent_of k) (parent_low k))
+    ∙ none) in
     by_half (λ s. s ≡ None) list k (λ even. both.0) (λ odd. both.1)
 
 some_half : (list : List (Option ℤ)) (k : Key) (s : Span) → AreSlots list → span list (parent_of k) ≡ Some s
@@ -124,7 +133,8 @@ some_half list k s values some =
     let l : Option Span = span list (left_of (parent_of k)) in
     let r : Option Span = span list (right_of (parent_of k)) in
     let split : parts s (coef_of l r) ≡ Some (l, r) =
-    parts_joined l r s (span_over-proper list _ _ values) (span_over-proper list _ _ values) (sym (span_halves list (parent_of k) (parent_low k)) ∙ some) in
+    parts_joined l r s (span_over-proper list _ _ values) (span_over-proper list _ _ values)
+    (sym (span_halves list (parent_of k) (parent_low k)) ∙ some) in
     ap (option_map (half k.index)) split
     ∙ by_half (λ t. Some (half k.index (let p : Option Span × Option Span = (l, r) in p)) ≡ Some t) list k
     (λ even. ap (λ t. Some t) (even_is k.index (l, r) even))
@@ -138,10 +148,13 @@ known_half list k (Some s) c values is told =
 
 -- the told coefficients above a key are the list's
 abbrev IsToldAbove : (Key → Option Coef) → List (Option ℤ) → Key → Type 0
-IsToldAbove told list k = (w : Key) → IsNode (height (length list)) w → k.level < w.level → IsAtOrAbove w k → IsSome (span list w) → told w ≡ Some (coef list w)
+IsToldAbove told list k = (w : Key) → IsNode (height (length list)) w → k.level < w.level → IsAtOrAbove w k → IsSome (span list w)
+    → told w ≡ Some (coef list w)
 
-spans_from : (root : Option Span) (told : Key → Option Coef) (list : List (Option ℤ)) (depth : ℕ) (k : Key) → AreSlots list → root ≡ span list (top_key (length list))
-    → k.level + depth ≡ height (length list) → k.index < 2 ^ depth → IsToldAbove told list k → known root told (height (length list)) k ≡ Some (span list k)
+spans_from : (root : Option Span) (told : Key → Option Coef) (list : List (Option ℤ)) (depth : ℕ) (k : Key) → AreSlots list
+    → root ≡ span list (top_key (length list))
+    → k.level + depth ≡ height (length list) → k.index < 2 ^ depth → IsToldAbove told list k
+    → known root told (height (length list)) k ≡ Some (span list k)
 spans_from root told list zero k values is levels within above =
     let at_top : top_key (length list) ≡ k = same_key (top_key (length list)) k (omega arith) (omega arith) in
     let P : Key → Type 0 = λ k. known root told (height (length list)) k ≡ Some (span list k) in
@@ -150,7 +163,8 @@ spans_from root told list (suc depth) k values is levels within above =
     let p : Key = parent_of k in
     let low : k.level < height (length list) = omega arith in
     let gap : height (length list) - suc k.level ≡ depth = omega arith in
-    let place : k.index < 2 ^ (height (length list) - k.level) = subst (λ n. k.index < 2 ^ n) (let e : suc depth ≡ height (length list) - k.level = omega arith in e) within in
+    let place : k.index < 2 ^ (height (length list) - k.level) = subst (λ n. k.index < 2 ^ n)
+    (let e : suc depth ≡ height (length list) - k.level = omega arith in e) within in
     let fits : p.index < 2 ^ (height (length list) - suc k.level) = parent_within (height (length list)) k low place in
     let fits_depth : p.index < 2 ^ depth = subst (λ n. p.index < 2 ^ n) gap fits in
     let node : IsNode (height (length list)) p = record { low = parent_low k; high = omega arith; within = fits } in
@@ -162,13 +176,15 @@ spans_from root told list (suc depth) k values is levels within above =
     ∙ known_half list k (span list p) (told p) values refl (λ some. above p node (omega arith) (parent_above k) some)
 
 -- where what is told above a key is the list's, its span is known, and the list's
-pub known_spans : (root : Option Span) (told : Key → Option Coef) (list : List (Option ℤ)) (k : Key) → AreSlots list → root ≡ span list (top_key (length list))
+pub known_spans : (root : Option Span) (told : Key → Option Coef) (list : List (Option ℤ)) (k : Key) → AreSlots list
+    → root ≡ span list (top_key (length list))
     → IsKey (height (length list)) k → IsToldAbove told list k → known root told (height (length list)) k ≡ Some (span list k)
 known_spans root told list k values is key above =
     spans_from root told list (height (length list) - k.level) k values is (omega (arith, key.high)) key.within above
 
 -- nodes that agree with a list know each key's span
-pub agrees_known : (view : NodesView) (list : List (Option ℤ)) (k : Key) → Agrees view list → IsKey (height view.slots) k → known_of view k ≡ Some (span list k)
+pub agrees_known : (view : NodesView) (list : List (Option ℤ)) (k : Key) → Agrees view list → IsKey (height view.slots) k
+    → known_of view k ≡ Some (span list k)
 agrees_known view list k agrees key =
     let P : ℕ → Type 0 = λ n. IsKey (height n) k in
     ap (λ n. known view.root view.told (height n) k) agrees.slots
@@ -176,7 +192,8 @@ agrees_known view list k agrees key =
     (λ w node low above some. agrees.told w node some tt)
 
 -- what an ask shows of the halves
-known_left : (root : Option Span) (told : Key → Option Coef) (top : ℕ) (k : Key) (s : Span) (c : Coef) (left right : Option Span) → IsNode top k
+known_left : (root : Option Span) (told : Key → Option Coef) (top : ℕ) (k : Key) (s : Span) (c : Coef) (left right : Option Span)
+    → IsNode top k
     → known root told top k ≡ Some (Some s) → told k ≡ Some c → parts s c ≡ Some (left, right) → known root told top (left_of k) ≡ Some left
 known_left root told top k s c left right node seen is split =
     known_step root told top (left_of k) (omega (arith, node.low, node.high))
@@ -185,8 +202,10 @@ known_left root told top k s c left right node seen is split =
     ∙ ap (option_map (half (2 * k.index))) split
     ∙ ap (λ t. Some t) (even_is (2 * k.index) (left, right) (omega arith))
 
-known_right : (root : Option Span) (told : Key → Option Coef) (top : ℕ) (k : Key) (s : Span) (c : Coef) (left right : Option Span) → IsNode top k
-    → known root told top k ≡ Some (Some s) → told k ≡ Some c → parts s c ≡ Some (left, right) → known root told top (right_of k) ≡ Some right
+known_right : (root : Option Span) (told : Key → Option Coef) (top : ℕ) (k : Key) (s : Span) (c : Coef) (left right : Option Span)
+    → IsNode top k
+    → known root told top k ≡ Some (Some s) → told k ≡ Some c → parts s c ≡ Some (left, right)
+    → known root told top (right_of k) ≡ Some right
 known_right root told top k s c left right node seen is split =
     known_step root told top (right_of k) (omega (arith, node.low, node.high))
     ∙ ap (λ p. known_below (2 * k.index + 1) (known root told top p) (told p)) (right_parent k node.low)
@@ -195,7 +214,8 @@ known_right root told top k s c left right node seen is split =
     ∙ ap (λ t. Some t) (odd_is (2 * k.index + 1) (left, right) (omega arith))
 
 pub reached_left : (view : NodesView) (k : Key) (s : Span) (c : Coef) (left right : Option Span) → IsNode (height view.slots) k
-    → (view.tells → known_of view k ≡ Some (Some s)) → (view.tells → view.told k ≡ Some c) → parts s c ≡ Some (left, right) → IsReached view (left_of k) left
+    → (view.tells → known_of view k ≡ Some (Some s)) → (view.tells → view.told k ≡ Some c) → parts s c ≡ Some (left, right)
+    → IsReached view (left_of k) left
 reached_left view k s c left right node seen is split = record {
   key = left_key (height view.slots) k node;
   proper = (parts_are s c left right split).left_proper;
@@ -203,7 +223,8 @@ reached_left view k s c left right node seen is split = record {
 }
 
 pub reached_right : (view : NodesView) (k : Key) (s : Span) (c : Coef) (left right : Option Span) → IsNode (height view.slots) k
-    → (view.tells → known_of view k ≡ Some (Some s)) → (view.tells → view.told k ≡ Some c) → parts s c ≡ Some (left, right) → IsReached view (right_of k) right
+    → (view.tells → known_of view k ≡ Some (Some s)) → (view.tells → view.told k ≡ Some c) → parts s c ≡ Some (left, right)
+    → IsReached view (right_of k) right
 reached_right view k s c left right node seen is split = record {
   key = right_key (height view.slots) k node;
   proper = (parts_are s c left right split).right_proper;
@@ -211,6 +232,7 @@ reached_right view k s c left right node seen is split = record {
 }
 
 -- the span of a key that a walk has come to is that of a list with which the nodes agree
-pub reached_span : (view : NodesView) (list : List (Option ℤ)) (k : Key) (s : Option Span) → Agrees view list → IsReached view k s → s ≡ span list k
+pub reached_span : (view : NodesView) (list : List (Option ℤ)) (k : Key) (s : Option Span) → Agrees view list → IsReached view k s
+    → s ≡ span list k
 reached_span view list k s agrees reached =
     same_Some s (span list k) (sym (reached.known agrees.tells) ∙ agrees_known view list k agrees reached.key)

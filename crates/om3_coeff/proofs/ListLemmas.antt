@@ -35,22 +35,27 @@ list_agrees list asked values few = record {
 }
 
 -- the span of a node that was asked is the list's
-pub list_seen : (list : List (Option ℤ)) (asked : Option Key) (k : Key) (s : Span) → AreSlots list → length list ≤ 2 ^ 35 → IsNode (height (length list)) k
+pub list_seen : (list : List (Option ℤ)) (asked : Option Key) (k : Key) (s : Span) → AreSlots list → length list ≤ 2 ^ 35
+    → IsNode (height (length list)) k
     → known_of (list_view list asked) k ≡ Some (Some s) → span list k ≡ Some s
 list_seen list asked k s values few node seen =
     same_Some (span list k) (Some s)
-    (sym (agrees_known (list_view list asked) list k (list_agrees list asked values few) (record { high = node.high; within = node.within })) ∙ seen)
+    (sym (agrees_known (list_view list asked) list k (list_agrees list asked values few)
+    (record { high = node.high; within = node.within })) ∙ seen)
 
 some_is : (p : Option (Option Span × Option Span)) (q : Option Span × Option Span) → p ≡ Some q → IsSome p
 some_is p q e = let P : Option (Option Span × Option Span) → Type 0 = λ p. IsSome p in subst P (sym e) refl
 
 -- so its coefficient splits it
-pub list_splits : (list : List (Option ℤ)) (asked : Option Key) (k left right : Key) (s : Span) (l r : Option Span) (c : Coef) → AreSlots list → length list ≤ 2 ^ 35 → IsNode (height (length list)) k
-    → known_of (list_view list asked) k ≡ Some (Some s) → left ≡ left_of k → right ≡ right_of k → l ≡ span list left → r ≡ span list right → c ≡ coef_of l r → IsSome (parts s c)
+pub list_splits : (list : List (Option ℤ)) (asked : Option Key) (k left right : Key) (s : Span) (l r : Option Span) (c : Coef)
+    → AreSlots list → length list ≤ 2 ^ 35 → IsNode (height (length list)) k
+    → known_of (list_view list asked) k ≡ Some (Some s) → left ≡ left_of k → right ≡ right_of k → l ≡ span list left → r ≡ span list right
+    → c ≡ coef_of l r → IsSome (parts s c)
 list_splits list asked k left right s l r c values few node seen el er e f joined =
     let is_left : l ≡ span list (left_of k) = e ∙ ap (span list) el in
     let is_right : r ≡ span list (right_of k) = f ∙ ap (span list) er in
-    let whole : hull l r ≡ Some s = ap₂ hull is_left is_right ∙ sym (span_halves list k node.low) ∙ list_seen list asked k s values few node seen in
+    let whole : hull l r ≡ Some s = ap₂ hull is_left is_right ∙ sym (span_halves list k node.low)
+    ∙ list_seen list asked k s values few node seen in
     let P : Option Span → Type 0 = λ s. IsProperIfAny s in
     let pl : IsProperIfAny l = subst P (sym is_left) (span_over-proper list _ _ values) in
     let pr : IsProperIfAny r = subst P (sym is_right) (span_over-proper list _ _ values) in

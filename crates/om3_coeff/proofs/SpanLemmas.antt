@@ -1,4 +1,5 @@
-use Rattle.std.proofs.Common.{ℕ, zero, suc, ℤ, ◌≡◌, ◌+◌, ◌-◌, ◌<◌, ◌≤◌, inl, inr, List, [], ◌∷◌, ◌++◌, take, drop, length, refl, sym, ◌∙◌, ap, ap₂, arith}
+use Rattle.std.proofs.Common.{ℕ, zero, suc, ℤ, ◌≡◌, ◌+◌, ◌-◌, ◌<◌, ◌≤◌, inl, inr, List, [], ◌∷◌, ◌++◌, take, drop, length, refl, sym, ◌∙◌}
+use Rattle.std.proofs.Common.{ap, ap₂, arith}
 use Rattle.std.proofs.lemmas.Int.{ints}
 use Rattle.std.proofs.lemmas.Bool.{cases_lt}
 use Rattle.std.proofs.lemmas.List.{drop-drop, drop_all, take_all, take_min, length-drop}
@@ -20,7 +21,8 @@ hull_assoc None b c = refl
 hull_assoc (Some a) None c = refl
 hull_assoc (Some a) (Some b) None = refl
 hull_assoc (Some a) (Some b) (Some c) =
-    ap₂ (λ (min max : ℤ). Some (let s : Span = record { min = min; max = max } in s)) (min_assoc a.min b.min c.min) (max_assoc a.max b.max c.max)
+    ap₂ (λ (min max : ℤ). Some (let s : Span = record { min = min; max = max } in s)) (min_assoc a.min b.min c.min)
+    (max_assoc a.max b.max c.max)
 
 pub hull-none : (a : Option Span) → hull a None ≡ a
 hull-none None = refl
@@ -43,7 +45,8 @@ take-add (suc i) j (x ∷ xs) =
     ap (λ n. take n (x ∷ xs)) first ∙ ap (λ ys. x ∷ ys) (take-add i j xs)
 
 -- the spans of two ranges make that of both
-pub span_over-both : (list : List (Option ℤ)) (a m b : ℕ) → a ≤ m → m ≤ b → span_over list a b ≡ hull (span_over list a m) (span_over list m b)
+pub span_over-both : (list : List (Option ℤ)) (a m b : ℕ) → a ≤ m → m ≤ b
+    → span_over list a b ≡ hull (span_over list a m) (span_over list m b)
 unfolding span_over
 span_over-both list a m b below above =
     let parts : b - a ≡ (m - a) + (b - m) = omega arith in
@@ -68,7 +71,8 @@ span_over-all list b long =
     ap (λ n. span_of (take n list)) whole ∙ ap span_of (take_all b list long)
 
 -- a range by the places that a list has
-pub span_within : (list : List (Option ℤ)) (a b : ℕ) → span_of (take (min b (length list) - min a (length list)) (drop (min a (length list)) list)) ≡ span_over list a b
+pub span_within : (list : List (Option ℤ)) (a b : ℕ)
+    → span_of (take (min b (length list) - min a (length list)) (drop (min a (length list)) list)) ≡ span_over list a b
 unfolding span_over
 span_within list a b =
     elim (cases_lt (length list) a) [

@@ -1,4 +1,5 @@
-use Rattle.std.proofs.Common.{ℕ, ℤ, ◌≡◌, ◌+◌, ◌-◌, ◌*◌, ◌^◌, ◌<◌, ◌≤◌, min, max, ◌⊎◌, inl, inr, List, length, refl, sym, ◌∙◌, ap, ap₂, subst, arith, lit<}
+use Rattle.std.proofs.Common.{ℕ, ℤ, ◌≡◌, ◌+◌, ◌-◌, ◌*◌, ◌^◌, ◌<◌, ◌≤◌, min, max, ◌⊎◌, inl, inr, List, length, refl, sym, ◌∙◌, ap, ap₂}
+use Rattle.std.proofs.Common.{subst, arith, lit<}
 use Rattle.std.proofs.Math.Nat.{pow-le-pow_right}
 use Rattle.std.proofs.lemmas.Nat.{pow_pos}
 use Rattle.std.proofs.lemmas.Bool.Decides.{nat_tests}
@@ -17,7 +18,8 @@ use Rattle.om3_coeff.specs.declared.places.Place.TheVariants.{Outside, Within, C
 use Rattle.om3_coeff.specs.Walks.{IsPlace, IsReached, cut_keys, most_cut, StaysBelow}
 use Rattle.om3_coeff.proofs.SpanLemmas.{hull-none, span_over-both, span_over-none, span_at, get_some}
 use Rattle.om3_coeff.proofs.ExtremeLemmas.{span_over_is, none-clear, clear-none}
-use Rattle.om3_coeff.proofs.KeyLemmas.{by_lt, height_few, height_covers, end_within, left_first, right_end, left_some, right_some, left_parent, right_parent, above_itself, parent_above, above_on}
+use Rattle.om3_coeff.proofs.KeyLemmas.{by_lt, height_few, height_covers, end_within, left_first, right_end, left_some, right_some}
+use Rattle.om3_coeff.proofs.KeyLemmas.{left_parent, right_parent, above_itself, parent_above, above_on}
 use Rattle.om3_coeff.proofs.KnownLemmas.{known_top, reached_span}
 
 -- the ranges of a tree's keys end far below 2^63
@@ -83,25 +85,33 @@ pub ask_right : (view : NodesView) (k : Key) → 1 ≤ k.level → view.asked �
 ask_right view k low asked =
     let P : Key → Type 0 = λ p. IsOver p view.asked in inr (subst P (sym (right_parent k low)) (over_asked k view.asked asked))
 
-pub after_left : (k : Key) (first second : Option Key) → 1 ≤ k.level → first ≡ Some k → StaysBelow (left_of k) first second → IsOver k second
+pub after_left : (k : Key) (first second : Option Key) → 1 ≤ k.level → first ≡ Some k → StaysBelow (left_of k) first second
+    → IsOver k second
 after_left k first second low asked below = stays_over k (left_of k) first second (left_below k low) (over_asked k first asked) below
 
-pub after_right : (k : Key) (first second : Option Key) → 1 ≤ k.level → first ≡ Some k → StaysBelow (right_of k) first second → IsOver k second
+pub after_right : (k : Key) (first second : Option Key) → 1 ≤ k.level → first ≡ Some k → StaysBelow (right_of k) first second
+    → IsOver k second
 after_right k first second low asked below = stays_over k (right_of k) first second (right_below k low) (over_asked k first asked) below
 
-pub right_follows : (view : NodesView) (k : Key) (first : Option Key) → 1 ≤ k.level → first ≡ Some k → StaysBelow (left_of k) first view.asked → MayAsk view (right_of k)
+pub right_follows : (view : NodesView) (k : Key) (first : Option Key) → 1 ≤ k.level → first ≡ Some k
+    → StaysBelow (left_of k) first view.asked → MayAsk view (right_of k)
 right_follows view k first low asked below =
-    let P : Key → Type 0 = λ p. IsOver p view.asked in inr (subst P (sym (right_parent k low)) (after_left k first view.asked low asked below))
+    let P : Key → Type 0 = λ p. IsOver p view.asked in
+    inr (subst P (sym (right_parent k low)) (after_left k first view.asked low asked below))
 
-pub left_follows : (view : NodesView) (k : Key) (first : Option Key) → 1 ≤ k.level → first ≡ Some k → StaysBelow (right_of k) first view.asked → MayAsk view (left_of k)
+pub left_follows : (view : NodesView) (k : Key) (first : Option Key) → 1 ≤ k.level → first ≡ Some k
+    → StaysBelow (right_of k) first view.asked → MayAsk view (left_of k)
 left_follows view k first low asked below =
-    let P : Key → Type 0 = λ p. IsOver p view.asked in inr (subst P (sym (left_parent k low)) (after_right k first view.asked low asked below))
+    let P : Key → Type 0 = λ p. IsOver p view.asked in
+    inr (subst P (sym (left_parent k low)) (after_right k first view.asked low asked below))
 
-pub both_below : (k : Key) (last first second third : Option Key) → 1 ≤ k.level → first ≡ Some k → StaysBelow (left_of k) first second → StaysBelow (right_of k) second third → StaysBelow k last third
+pub both_below : (k : Key) (last first second third : Option Key) → 1 ≤ k.level → first ≡ Some k → StaysBelow (left_of k) first second
+    → StaysBelow (right_of k) second third → StaysBelow k last third
 both_below k last first second third low asked left right =
     inr (stays_over k (right_of k) second third (right_below k low) (after_left k first second low asked left) right)
 
-pub both_below_back : (k : Key) (last first second third : Option Key) → 1 ≤ k.level → first ≡ Some k → StaysBelow (right_of k) first second → StaysBelow (left_of k) second third → StaysBelow k last third
+pub both_below_back : (k : Key) (last first second third : Option Key) → 1 ≤ k.level → first ≡ Some k → StaysBelow (right_of k) first second
+    → StaysBelow (left_of k) second third → StaysBelow k last third
 both_below_back k last first second third low asked right left =
     inr (stays_over k (left_of k) second third (left_below k low) (after_right k first second low asked right) left)
 
@@ -121,7 +131,8 @@ one_value list i s h =
 slot_extremes : (list : List (Option ℤ)) (i : ℕ) (s : Span) → Some s ≡ span_over list i (i + 1) → AreExtremes list i (i + 1) s
 slot_extremes list i s is = let P : Option Span → Type 0 = λ s. IsSpanOf list i (i + 1) s in subst P (sym is) (span_over_is list i (i + 1))
 
-pub slot_span : (list : List (Option ℤ)) (i : ℕ) (s : Span) → Some s ≡ span_over list i (i + 1) → span_of_slot (Some s.min) ≡ span_over list i (i + 1)
+pub slot_span : (list : List (Option ℤ)) (i : ℕ) (s : Span) → Some s ≡ span_over list i (i + 1)
+    → span_of_slot (Some s.min) ≡ span_over list i (i + 1)
 slot_span list i s is =
     ap (λ max. Some (let t : Span = record { min = s.min; max = max } in t)) (one_value list i s (slot_extremes list i s is)) ∙ is
 
@@ -139,16 +150,19 @@ slot_range list k at_zero =
     ap₂ (span_over list) (ap (λ n. k.index * n) width ∙ one) (ap (λ n. (k.index + 1) * n) width ∙ next)
 
 -- value_at
-pub value_none : (view : NodesView) (list : List (Option ℤ)) (k : Key) (s : Option Span) (i : ℕ) → Agrees view list → IsReached view k s → s ≡ None → first_slot k ≤ i → i < end_slot k
+pub value_none : (view : NodesView) (list : List (Option ℤ)) (k : Key) (s : Option Span) (i : ℕ) → Agrees view list → IsReached view k s
+    → s ≡ None → first_slot k ≤ i → i < end_slot k
     → ◌≡◌ {A = Option Span} None (span_over list i (i + 1))
 value_none view list k s i agrees reached none from to =
     sym (none_within list (first_slot k) (end_slot k) i (i + 1) (sym (reached_span view list k s agrees reached) ∙ none) from (omega arith))
 
-pub value_here : (view : NodesView) (list : List (Option ℤ)) (k : Key) (s : Span) (i : ℕ) → Agrees view list → IsReached view k (Some s) → k.level ≡ 0 → first_slot k ≤ i → i < end_slot k
+pub value_here : (view : NodesView) (list : List (Option ℤ)) (k : Key) (s : Span) (i : ℕ) → Agrees view list → IsReached view k (Some s)
+    → k.level ≡ 0 → first_slot k ≤ i → i < end_slot k
     → span_of_slot (Some s.min) ≡ span_over list i (i + 1)
 value_here view list k s i agrees reached at_zero from to =
     let P : ℕ → Type 0 = λ i. span_of_slot (Some s.min) ≡ span_over list i (i + 1) in
-    subst P (slot_of k i at_zero from to) (slot_span list k.index s (reached_span view list k (Some s) agrees reached ∙ slot_range list k at_zero))
+    subst P (slot_of k i at_zero from to) (slot_span list k.index s (reached_span view list k (Some s) agrees reached
+    ∙ slot_range list k at_zero))
 
 -- the value of a slot by its span
 same_slot : (x y : Option ℤ) → span_of_slot x ≡ span_of_slot y → x ≡ y
@@ -168,7 +182,8 @@ ask_at view half k is may = let P : Key → Type 0 = λ k. MayAsk view k in subs
 pub left_from : (k half : Key) (i : ℕ) → half ≡ left_of k → 1 ≤ k.level → first_slot k ≤ i → first_slot half ≤ i
 left_from k half i is low from = omega (arith, ap first_slot is, left_first k low, from)
 
-pub left_to : (k half second : Key) (i first : ℕ) → half ≡ left_of k → second ≡ right_of k → first ≡ first_slot second → i < first → i < end_slot half
+pub left_to : (k half second : Key) (i first : ℕ) → half ≡ left_of k → second ≡ right_of k → first ≡ first_slot second → i < first
+    → i < end_slot half
 left_to k half second i first is next e to = omega (arith, ap end_slot is, ap first_slot next, e, to)
 
 pub right_from : (second : Key) (i first : ℕ) → first ≡ first_slot second → first ≤ i → first_slot second ≤ i
@@ -180,7 +195,8 @@ right_to k half i is low to = omega (arith, ap end_slot is, right_end k low, to)
 pub right_small : (n : ℕ) (k half : Key) → IsKey (height n) k → 1 ≤ k.level → half ≡ right_of k → end_slot half < 2 ^ 63
 right_small n k half key low is = omega (arith, ap end_slot is, right_end k low, key_small n k key)
 
-pub value_code : (list : List (Option ℤ)) (z : ℤ) (i : ℕ) → IsValue z → span_of_slot (Some z) ≡ span_over list i (i + 1) → span_of_slot (Some (cast_signed w64 (cast_unsigned w64 z))) ≡ span_over list i (i + 1)
+pub value_code : (list : List (Option ℤ)) (z : ℤ) (i : ℕ) → IsValue z → span_of_slot (Some z) ≡ span_over list i (i + 1)
+    → span_of_slot (Some (cast_signed w64 (cast_unsigned w64 z))) ≡ span_over list i (i + 1)
 value_code list z i value h = ap (λ z. span_of_slot (Some z)) (same_value z value) ∙ h
 
 -- a key that an end of the range cuts has halves
@@ -194,7 +210,8 @@ slot_width k at_zero =
 
 pub cut_low : (a b : ℕ) (k : Key) → IsPlace a b k Cut → 1 ≤ k.level
 cut_low a b k place =
-    by_lt 0 k.level (λ low. low) (λ high. absurd (cut_slots a b (first_slot k) (end_slot k) (slot_width k (omega arith)) place.0 place.1 place.2))
+    by_lt 0 k.level (λ low. low) (λ high. absurd (cut_slots a b (first_slot k) (end_slot k)
+    (slot_width k (omega arith)) place.0 place.1 place.2))
 
 -- how many keys are cut, by those in the two halves
 cut_halves : (a b first middle end level : ℕ) → first < middle → middle < end → a < end → first < b → (first < a) ⊎ (b < end)
@@ -218,7 +235,8 @@ cut_counts a b k place =
       left,
       right,
       whole,
-      cut_halves a b (first_slot k) (end_slot (left_of k)) (end_slot k) (k.level - 1) (left_some k low) (right_some k low) place.0 place.1 place.2,
+      cut_halves a b (first_slot k) (end_slot (left_of k)) (end_slot k) (k.level - 1) (left_some k low)
+          (right_some k low) place.0 place.1 place.2,
     )
 
 -- the reads of a walk below a cut key
@@ -235,20 +253,24 @@ pub cut_reads_twice : (a b : ℕ) (k left : Key) (before asked first : ℕ) → 
 cut_reads_twice a b k left before asked first place l one low = omega (arith, cut_counts a b k place, ap (most_cut a b) l, one, low)
 
 -- the span of the slots of a walk that lie in a key's range
-pub list_none : (view : NodesView) (list : List (Option ℤ)) (k : Key) (s : Option Span) (a b : ℕ) → Agrees view list → IsReached view k s → s ≡ None
+pub list_none : (view : NodesView) (list : List (Option ℤ)) (k : Key) (s : Option Span) (a b : ℕ) → Agrees view list → IsReached view k s
+    → s ≡ None
     → ◌≡◌ {A = Option Span} None (span_over list (max a (first_slot k)) (min b (end_slot k)))
 list_none view list k s a b agrees reached none =
-    sym (none_within list (first_slot k) (end_slot k) (max a (first_slot k)) (min b (end_slot k)) (sym (reached_span view list k s agrees reached) ∙ none) (omega arith) (omega arith))
+    sym (none_within list (first_slot k) (end_slot k) (max a (first_slot k)) (min b (end_slot k))
+    (sym (reached_span view list k s agrees reached) ∙ none) (omega arith) (omega arith))
 
 outside_empty : (a b first end : ℕ) → (end ≤ a) ⊎ (b ≤ first) → min b end ≤ max a first
 outside_empty a b first end (inl h) = omega arith
 outside_empty a b first end (inr h) = omega arith
 
-pub list_outside : (list : List (Option ℤ)) (a b : ℕ) (k : Key) → IsPlace a b k Outside → ◌≡◌ {A = Option Span} None (span_over list (max a (first_slot k)) (min b (end_slot k)))
+pub list_outside : (list : List (Option ℤ)) (a b : ℕ) (k : Key) → IsPlace a b k Outside
+    → ◌≡◌ {A = Option Span} None (span_over list (max a (first_slot k)) (min b (end_slot k)))
 list_outside list a b k place =
     sym (span_over-none list (max a (first_slot k)) (min b (end_slot k)) (outside_empty a b (first_slot k) (end_slot k) place))
 
-pub list_within : (view : NodesView) (list : List (Option ℤ)) (k : Key) (s : Option Span) (t : Span) (a b : ℕ) → Agrees view list → IsReached view k s → s ≡ Some t → IsPlace a b k Within
+pub list_within : (view : NodesView) (list : List (Option ℤ)) (k : Key) (s : Option Span) (t : Span) (a b : ℕ) → Agrees view list
+    → IsReached view k s → s ≡ Some t → IsPlace a b k Within
     → Some t ≡ span_over list (max a (first_slot k)) (min b (end_slot k))
 list_within view list k s t a b agrees reached is place =
     let from : first_slot k ≡ max a (first_slot k) = omega (arith, place.0) in
@@ -256,7 +278,8 @@ list_within view list k s t a b agrees reached is place =
     sym is ∙ reached_span view list k s agrees reached ∙ ap₂ (span_over list) from to
 
 cut_span : (list : List (Option ℤ)) (a b first middle end : ℕ) → first < middle → middle < end → a < end → first < b
-    → hull (span_over list (max a first) (min b middle)) (span_over list (max a middle) (min b end)) ≡ span_over list (max a first) (min b end)
+    → hull (span_over list (max a first) (min b middle)) (span_over list (max a middle) (min b end)) ≡ span_over list (max a first)
+    (min b end)
 cut_span list a b first middle end low high from to =
     by_lt a middle
     (λ left.
@@ -269,14 +292,17 @@ cut_span list a b first middle end low high from to =
     (λ none.
     let empty : span_over list (max a middle) (min b end) ≡ None = span_over-none list (max a middle) (min b end) (omega arith) in
     let same : min b middle ≡ min b end = omega arith in
-    ap₂ (λ (x : ℕ) (y : Option Span). hull (span_over list (max a first) x) y) same empty ∙ hull-none (span_over list (max a first) (min b end))))
+    ap₂ (λ (x : ℕ) (y : Option Span). hull (span_over list (max a first) x) y) same empty
+    ∙ hull-none (span_over list (max a first) (min b end))))
     (λ none.
     let empty : span_over list (max a first) (min b middle) ≡ None = span_over-none list (max a first) (min b middle) (omega arith) in
     let same : max a middle ≡ max a first = omega arith in
     ap₂ (λ (x : Option Span) (y : ℕ). hull x (span_over list y (min b end))) empty same)
 
-pub list_cut : (list : List (Option ℤ)) (a b : ℕ) (k left right : Key) (x y : Option Span) → IsPlace a b k Cut → left ≡ left_of k → right ≡ right_of k
-    → x ≡ span_over list (max a (first_slot left)) (min b (end_slot left)) → y ≡ span_over list (max a (first_slot right)) (min b (end_slot right))
+pub list_cut : (list : List (Option ℤ)) (a b : ℕ) (k left right : Key) (x y : Option Span) → IsPlace a b k Cut → left ≡ left_of k
+    → right ≡ right_of k
+    → x ≡ span_over list (max a (first_slot left)) (min b (end_slot left))
+    → y ≡ span_over list (max a (first_slot right)) (min b (end_slot right))
     → hull x y ≡ span_over list (max a (first_slot k)) (min b (end_slot k))
 list_cut list a b k left right x y place l r ex ey =
     let low : 1 ≤ k.level = cut_low a b k place in
@@ -290,30 +316,35 @@ list_cut list a b k left right x y place l r ex ey =
     ∙ cut_span list a b (first_slot k) (end_slot (left_of k)) (end_slot k) (left_some k low) (right_some k low) place.0 place.1
 
 -- the same for the keys that the code has for the halves
-pub both_below_at : (k left right : Key) (last first second third : Option Key) → 1 ≤ k.level → left ≡ left_of k → right ≡ right_of k → first ≡ Some k → StaysBelow left first second → StaysBelow right second third → StaysBelow k last third
+pub both_below_at : (k left right : Key) (last first second third : Option Key) → 1 ≤ k.level → left ≡ left_of k → right ≡ right_of k
+    → first ≡ Some k → StaysBelow left first second → StaysBelow right second third → StaysBelow k last third
 both_below_at k left right last first second third low l r asked below after =
     let P : Key → Type 0 = λ h. StaysBelow h first second in
     let Q : Key → Type 0 = λ h. StaysBelow h second third in
     both_below k last first second third low asked (subst P l below) (subst Q r after)
 
-pub both_below_back_at : (k left right : Key) (last first second third : Option Key) → 1 ≤ k.level → left ≡ left_of k → right ≡ right_of k → first ≡ Some k → StaysBelow right first second → StaysBelow left second third → StaysBelow k last third
+pub both_below_back_at : (k left right : Key) (last first second third : Option Key) → 1 ≤ k.level → left ≡ left_of k → right ≡ right_of k
+    → first ≡ Some k → StaysBelow right first second → StaysBelow left second third → StaysBelow k last third
 both_below_back_at k left right last first second third low l r asked below after =
     let P : Key → Type 0 = λ h. StaysBelow h first second in
     let Q : Key → Type 0 = λ h. StaysBelow h second third in
     both_below_back k last first second third low asked (subst P r below) (subst Q l after)
 
-pub right_follows_at : (view : NodesView) (k left right : Key) (first : Option Key) → 1 ≤ k.level → left ≡ left_of k → right ≡ right_of k → first ≡ Some k → StaysBelow left first view.asked → MayAsk view right
+pub right_follows_at : (view : NodesView) (k left right : Key) (first : Option Key) → 1 ≤ k.level → left ≡ left_of k → right ≡ right_of k
+    → first ≡ Some k → StaysBelow left first view.asked → MayAsk view right
 right_follows_at view k left right first low l r asked below =
     let P : Key → Type 0 = λ h. StaysBelow h first view.asked in
     ask_at view right (right_of k) r (right_follows view k first low asked (subst P l below))
 
-pub left_follows_at : (view : NodesView) (k left right : Key) (first : Option Key) → 1 ≤ k.level → left ≡ left_of k → right ≡ right_of k → first ≡ Some k → StaysBelow right first view.asked → MayAsk view left
+pub left_follows_at : (view : NodesView) (k left right : Key) (first : Option Key) → 1 ≤ k.level → left ≡ left_of k → right ≡ right_of k
+    → first ≡ Some k → StaysBelow right first view.asked → MayAsk view left
 left_follows_at view k left right first low l r asked below =
     let P : Key → Type 0 = λ h. StaysBelow h first view.asked in
     ask_at view left (left_of k) l (left_follows view k first low asked (subst P r below))
 
 -- the walk begins at the top
-pub at_top : (view : NodesView) (top : Key) (s : Option Span) (n : ℕ) → n ≡ view.slots → s ≡ view.root → IsProperIfAny s → top ≡ top_key n → IsReached view top s
+pub at_top : (view : NodesView) (top : Key) (s : Option Span) (n : ℕ) → n ≡ view.slots → s ≡ view.root → IsProperIfAny s → top ≡ top_key n
+    → IsReached view top s
 at_top view top s n slots root proper is =
     let P : Key → Type 0 = λ k. IsReached view k s in
     let e : top ≡ top_key view.slots = is ∙ ap top_key slots in
@@ -349,7 +380,8 @@ pub top_reads : (a b n m : ℕ) (top : Key) → n ≡ m → top ≡ top_key n �
 top_reads a b n m top slots is =
     omega (arith, cut_most a b (first_slot top) (end_slot top) top.level, ap (λ k. 2 * k.level) is, ap (λ n. 2 * height n) slots)
 
-pub value_list : (list : List (Option ℤ)) (i : ℕ) (v : Option ℤ) → i < length list → span_of_slot v ≡ span_over list i (i + 1) → slice_get list i ≡ Some v
+pub value_list : (list : List (Option ℤ)) (i : ℕ) (v : Option ℤ) → i < length list → span_of_slot v ≡ span_over list i (i + 1)
+    → slice_get list i ≡ Some v
 value_list list i v within e =
     let x : (x : Option ℤ) × (slice_get list i ≡ Some x) = get_some list i within in
     x.1 ∙ ap (λ x. Some x) (sym (same_slot v x.0 (e ∙ span_at list i x.0 x.1)))

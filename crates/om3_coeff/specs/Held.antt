@@ -47,7 +47,8 @@ held_view slots root told asked asks = record {
 }
 
 -- the errors that may come are those of what is told
-same_error : (root other : Option Span) (told after : Key → Option Coef) (slots count : ℕ) (e : NodeError) → other ≡ root → after ≡ told → count ≡ slots
+same_error : (root other : Option Span) (told after : Key → Option Coef) (slots count : ℕ) (e : NodeError) → other ≡ root → after ≡ told
+    → count ≡ slots
     → IsHeldError root told (height slots) e → IsHeldError other after (height count) e
 same_error root other told after slots count e of_root of_told of_slots h =
     let P : Option Span → Type 0 = λ r. IsHeldError r told (height slots) e in

@@ -13,5 +13,6 @@ abbrev pub KnownSpansAreTheLists : Type 0
 KnownSpansAreTheLists =
     (root : Option Span) (told : Key → Option Coef) (list : List (Option ℤ)) (k : Key)
     → AreSlots list → root ≡ span list (top_key (length list)) → IsKey (height (length list)) k
-    → ((w : Key) → IsNode (height (length list)) w → k.level < w.level → IsAtOrAbove w k → IsSome (span list w) → told w ≡ Some (coef list w))
+    → ((w : Key) → IsNode (height (length list)) w → k.level < w.level → IsAtOrAbove w k → IsSome (span list w)
+    → told w ≡ Some (coef list w))
     → known root told (height (length list)) k ≡ Some (span list k)

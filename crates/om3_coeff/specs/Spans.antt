@@ -1,5 +1,6 @@
 -- What a list of slots stores in a range, and the least and the greatest of it.
-use Rattle.std.specs.Prelude.{ℕ, ℤ, ◌≡◌, ◌-◌, ◌<◌, ◌≤◌, ◌≤ℤ◌, Bool, ◌&&◌, int_le, List, [], ◌∷◌, take, drop, slice_get, Option, None, Some, IfSome}
+use Rattle.std.specs.Prelude.{ℕ, ℤ, ◌≡◌, ◌-◌, ◌<◌, ◌≤◌, ◌≤ℤ◌, Bool, ◌&&◌, int_le, List, [], ◌∷◌, take, drop, slice_get, Option, None, Some}
+use Rattle.std.specs.Prelude.{IfSome}
 use Rattle.std.specs.Int.{int_min, int_max}
 use Rattle.whole_number.specs.Range.{IsValue, is_value}
 use Rattle.om3_coeff.specs.declared.key.Key.{Key}

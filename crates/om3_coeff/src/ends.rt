@@ -46,7 +46,8 @@ fn first_below<N: Nodes>(
     requires reached { IsReached (N.view nodes.old) key span }
     requires follows { MayAsk (N.view nodes.old) key }
 
-    ensures list { (list : List (Option ℤ)) → Agrees (N.view nodes.old) list → IfOk result (IsFirstStored list (max a (first_slot key)) (min b (end_slot key))) }
+    ensures list { (list : List (Option ℤ)) → Agrees (N.view nodes.old) list
+        → IfOk result (IsFirstStored list (max a (first_slot key)) (min b (end_slot key))) }
     ensures slot { IfOk result (λ found. IfSome found (IsSlotIn (max a (first_slot key)) (min b (end_slot key)))) }
     ensures fit { (N.view nodes.new).fit }
     ensures kept { N.keeps nodes.old nodes.new }
@@ -110,7 +111,8 @@ fn last_below<N: Nodes>(
     requires reached { IsReached (N.view nodes.old) key span }
     requires follows { MayAsk (N.view nodes.old) key }
 
-    ensures list { (list : List (Option ℤ)) → Agrees (N.view nodes.old) list → IfOk result (IsLastStored list (max a (first_slot key)) (min b (end_slot key))) }
+    ensures list { (list : List (Option ℤ)) → Agrees (N.view nodes.old) list
+        → IfOk result (IsLastStored list (max a (first_slot key)) (min b (end_slot key))) }
     ensures slot { IfOk result (λ found. IfSome found (IsSlotIn (max a (first_slot key)) (min b (end_slot key)))) }
     ensures fit { (N.view nodes.new).fit }
     ensures kept { N.keeps nodes.old nodes.new }

@@ -48,7 +48,8 @@ fn value_below<N: Nodes>(
     requires from { first_slot key ≤ slot }
     requires to { slot < end_slot key }
 
-    ensures list { (list : List (Option ℤ)) → Agrees (N.view nodes.old) list → IfOk result (λ value. span_of_slot value ≡ span_over list slot (slot + 1)) }
+    ensures list { (list : List (Option ℤ)) → Agrees (N.view nodes.old) list
+        → IfOk result (λ value. span_of_slot value ≡ span_over list slot (slot + 1)) }
     ensures value { IfOk result (λ value. IfSome value IsValue) }
     ensures fit { (N.view nodes.new).fit }
     ensures kept { N.keeps nodes.old nodes.new }
@@ -107,7 +108,8 @@ fn span_below<N: Nodes>(
     requires reached { IsReached (N.view nodes.old) key span }
     requires follows { MayAsk (N.view nodes.old) key }
 
-    ensures list { (list : List (Option ℤ)) → Agrees (N.view nodes.old) list → IfOk result (λ span. span ≡ span_over list (max a (first_slot key)) (min b (end_slot key))) }
+    ensures list { (list : List (Option ℤ)) → Agrees (N.view nodes.old) list
+        → IfOk result (λ span. span ≡ span_over list (max a (first_slot key)) (min b (end_slot key))) }
     ensures proper { IfOk result IsProperIfAny }
     ensures fit { (N.view nodes.new).fit }
     ensures kept { N.keeps nodes.old nodes.new }

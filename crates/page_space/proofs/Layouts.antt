@@ -1,9 +1,11 @@
 -- A page spells one superblock, or names one next page.
-use Rattle.std.proofs.Common.{◌≡◌, ◌≢◌, ℕ, zero, suc, ◌+◌, ◌<◌, ◌≤◌, ◌^◌, Bool, true, false, IsTrue, ◌↔◌, List, ◌++◌, drop, refl, sym, ap, subst, arith, ◌∙◌}
+use Rattle.std.proofs.Common.{◌≡◌, ◌≢◌, ℕ, zero, suc, ◌+◌, ◌<◌, ◌≤◌, ◌^◌, Bool, true, false, IsTrue, ◌↔◌, List, ◌++◌, drop, refl, sym, ap}
+use Rattle.std.proofs.Common.{subst, arith, ◌∙◌}
 use Rattle.std.specs.Prelude.{replicate}
 use Rattle.std.proofs.lemmas.List.{append_cancel_left}
 use Rattle.page_space.specs.declared.superblock.Superblock.{Superblock}
-use Rattle.page_space.specs.Layout.{magic, superblock_page, freed_page, HasMagic, IsGiven, IsSuperblock, IsSmall, IsNext, Keeps, Links, with_fresh, without_head, with_head, with_series}
+use Rattle.page_space.specs.Layout.{magic, superblock_page, freed_page, HasMagic, IsGiven, IsSuperblock, IsSmall, IsNext, Keeps, Links}
+use Rattle.page_space.specs.Layout.{with_fresh, without_head, with_head, with_series}
 use Rattle.page_space.proofs.Words.{word_front}
 
 -- what a test denied
@@ -66,7 +68,8 @@ fresh_rules count s room rules = record {
   series_high = rules.series_high;
 }
 
-pub next_rules : (count : ℕ) (s : Superblock) (next : ℕ) → s.chain ≢ 0 → IsNext s next → IsSuperblock count s → IsSuperblock count (without_head s next)
+pub next_rules : (count : ℕ) (s : Superblock) (next : ℕ) → s.chain ≢ 0 → IsNext s next → IsSuperblock count s
+    → IsSuperblock count (without_head s next)
 next_rules count s next some is rules =
     let more : 1 ≤ s.chain = positive s.chain some in
     record {
@@ -84,7 +87,8 @@ next_rules count s next some is rules =
     positive zero some = absurd (some refl)
     positive (suc n) some = omega arith
 
-pub head_rules : (count : ℕ) (s : Superblock) (p : ℕ) → 17 ≤ p → p < s.fresh → s.chain + 17 < s.fresh → IsSuperblock count s → IsSuperblock count (with_head s p)
+pub head_rules : (count : ℕ) (s : Superblock) (p : ℕ) → 17 ≤ p → p < s.fresh → s.chain + 17 < s.fresh → IsSuperblock count s
+    → IsSuperblock count (with_head s p)
 head_rules count s p low high room rules = record {
   total_low = rules.total_low;
   total_high = rules.total_high;
@@ -117,14 +121,16 @@ unfolding superblock_page
 marked s = refl
 
 -- page 0 keeps its layout for no other numbers
-pub invalid_none : (count : ℕ) (page numbers : List ℕ) (s : Superblock) → count < 2 ^ 32 → IsSmall s → page ≡ magic ++ numbers → superblock_page s ≡ magic ++ numbers → (IsSuperblock count s → ⊥) → (t : Superblock) → Keeps count t page → ⊥
+pub invalid_none : (count : ℕ) (page numbers : List ℕ) (s : Superblock) → count < 2 ^ 32 → IsSmall s → page ≡ magic ++ numbers
+    → superblock_page s ≡ magic ++ numbers → (IsSuperblock count s → ⊥) → (t : Superblock) → Keeps count t page → ⊥
 invalid_none count page numbers s few small marked read invalid t keeps =
     let same = same_numbers t s (rules_small count t few keeps.rules) small (sym keeps.spelled ∙ marked ∙ sym read) in
     let P : Superblock → Type 0 = λ u. IsSuperblock count u in
     invalid (subst P same keeps.rules)
 
 -- and the head of the chain for no other page
-pub unlinked_none : (s : Superblock) (next : ℕ) (page : List ℕ) → s.fresh < 2 ^ 32 → next < 2 ^ 32 → page ≡ freed_page next → (IsNext s next → ⊥) → (n : ℕ) → Links s n page → ⊥
+pub unlinked_none : (s : Superblock) (next : ℕ) (page : List ℕ) → s.fresh < 2 ^ 32 → next < 2 ^ 32 → page ≡ freed_page next
+    → (IsNext s next → ⊥) → (n : ℕ) → Links s n page → ⊥
 unlinked_none s next page small fits is wrong n links =
     let same = same_next n next (by n links.rule.given) fits (sym links.spelled ∙ is) in
     let P : ℕ → Type 0 = λ m. IsNext s m in

@@ -1,5 +1,6 @@
 -- The places of a cache of pages, as they are filled.
-use Rattle.std.proofs.Common.{◌≡◌, ℕ, zero, suc, ◌-◌, ◌*◌, ◌<◌, ◌≤◌, ◌⊎◌, ◌++◌, arith, List, [], ◌∷◌, length, set, get_or, take, drop, Option, Some, None, is_some, true, rules, refl, sym, ap, inl, inr, ◌∙◌}
+use Rattle.std.proofs.Common.{◌≡◌, ℕ, zero, suc, ◌-◌, ◌*◌, ◌<◌, ◌≤◌, ◌⊎◌, ◌++◌, arith, List, [], ◌∷◌, length, set, get_or, take, drop}
+use Rattle.std.proofs.Common.{Option, Some, None, is_some, true, rules, refl, sym, ap, inl, inr, ◌∙◌}
 use Rattle.std.specs.Prelude.{replicate}
 use Rattle.std.proofs.lemmas.Bool.Decides.{eqb_tells}
 use Rattle.std.proofs.lemmas.List.{get_or-set_same, get_or-set_other, drop-append-le, take-append-le, length-drop}
@@ -29,7 +30,8 @@ filled_none zero = refl
 filled_none (suc n) = filled_none n
 
 -- an empty place is filled
-pub filled_more : (places : List (Option Kept)) (at : ℕ) (kept : Kept) → at < length places → get_or places at None ≡ None → filled (set places at (Some kept)) ≡ suc (filled places)
+pub filled_more : (places : List (Option Kept)) (at : ℕ) (kept : Kept) → at < length places → get_or places at None ≡ None
+    → filled (set places at (Some kept)) ≡ suc (filled places)
 filled_more [] at kept low none = absurd (omega (arith, low))
 filled_more (None ∷ places) zero kept low none = refl
 filled_more (Some old ∷ places) zero kept low none = absurd (none-some old (sym none))
@@ -37,7 +39,8 @@ filled_more (None ∷ places) (suc at) kept low none = filled_more places at kep
 filled_more (Some old ∷ places) (suc at) kept low none = ap (λ n. suc n) (filled_more places at kept (omega (arith, low)) none)
 
 -- and a filled one again
-pub filled_same : (places : List (Option Kept)) (at : ℕ) (old kept : Kept) → at < length places → get_or places at None ≡ Some old → filled (set places at (Some kept)) ≡ filled places
+pub filled_same : (places : List (Option Kept)) (at : ℕ) (old kept : Kept) → at < length places → get_or places at None ≡ Some old
+    → filled (set places at (Some kept)) ≡ filled places
 filled_same [] at old kept low some = absurd (omega (arith, low))
 filled_same (None ∷ places) zero old kept low some = absurd (none-some old some)
 filled_same (Some first ∷ places) zero old kept low some = refl
@@ -54,11 +57,14 @@ kept_none places none = record {
 }
 
 -- a page comes in place of another one, whose copy becomes its own
-kept_was : (places : List (Option Kept)) (at : ℕ) (old kept : Kept) → at < length places → get_or places at None ≡ Some old → kept.copy ≡ old.copy
-    → (a : ℕ) (one : Kept) → get_or (set places at (Some kept)) a None ≡ Some one → (was : Kept) × (get_or places a None ≡ Some was) × (was.copy ≡ one.copy)
+kept_was : (places : List (Option Kept)) (at : ℕ) (old kept : Kept) → at < length places → get_or places at None ≡ Some old
+    → kept.copy ≡ old.copy
+    → (a : ℕ) (one : Kept) → get_or (set places at (Some kept)) a None ≡ Some one
+    → (was : Kept) × (get_or places a None ≡ Some was) × (was.copy ≡ one.copy)
 kept_was places at old kept low some same a one is = elim (eqb_tells a at) [
   | inl here ↦
-      let new : Some kept ≡ Some one = sym (ap (λ n. get_or (set places at (Some kept)) n None) here.1 ∙ get_or-set_same places at (Some kept) None low) ∙ is in (
+      let new : Some kept ≡ Some one = sym (ap (λ n. get_or (set places at (Some kept)) n None) here.1
+      ∙ get_or-set_same places at (Some kept) None low) ∙ is in (
         old,
         ap (λ n. get_or places n None) here.1 ∙ some,
         sym same ∙ ap (λ (k : Kept). k.copy) (same_Some kept one new),
@@ -66,7 +72,8 @@ kept_was places at old kept low some same a one is = elim (eqb_tells a at) [
   | inr other ↦ (one, sym (get_or-set_other places at a (Some kept) None other.1) ∙ is, refl)
 ]
 
-pub kept_over : (places : List (Option Kept)) (at : ℕ) (old kept : Kept) → at < length places → get_or places at None ≡ Some old → kept.copy ≡ old.copy → AreKept places → AreKept (set places at (Some kept))
+pub kept_over : (places : List (Option Kept)) (at : ℕ) (old kept : Kept) → at < length places → get_or places at None ≡ Some old
+    → kept.copy ≡ old.copy → AreKept places → AreKept (set places at (Some kept))
 kept_over places at old kept low some same are = record {
   within = λ a one is.
       let was = kept_was places at old kept low some same a one is in
@@ -79,13 +86,19 @@ kept_over places at old kept low some same are = record {
 
 -- a page comes into an empty place: its copy is the one behind the others
 kept_new : (places : List (Option Kept)) (at : ℕ) (kept : Kept) → at < length places
-    → (a : ℕ) (one : Kept) → get_or (set places at (Some kept)) a None ≡ Some one → ((a ≡ at) × (kept ≡ one)) ⊎ (get_or places a None ≡ Some one)
+    → (a : ℕ) (one : Kept) → get_or (set places at (Some kept)) a None ≡ Some one
+    → ((a ≡ at) × (kept ≡ one)) ⊎ (get_or places a None ≡ Some one)
 kept_new places at kept low a one is = elim (eqb_tells a at) [
-  | inl here ↦ inl (here.1, same_Some kept one (sym (ap (λ n. get_or (set places at (Some kept)) n None) here.1 ∙ get_or-set_same places at (Some kept) None low) ∙ is))
+  | inl here ↦ inl (
+    here.1,
+    same_Some kept one (sym (ap (λ n. get_or (set places at (Some kept)) n None) here.1
+        ∙ get_or-set_same places at (Some kept) None low) ∙ is),
+  )
   | inr other ↦ inr (sym (get_or-set_other places at a (Some kept) None other.1) ∙ is)
 ]
 
-pub kept_first : (places : List (Option Kept)) (at : ℕ) (kept : Kept) → at < length places → get_or places at None ≡ None → kept.copy ≡ filled places → AreKept places → AreKept (set places at (Some kept))
+pub kept_first : (places : List (Option Kept)) (at : ℕ) (kept : Kept) → at < length places → get_or places at None ≡ None
+    → kept.copy ≡ filled places → AreKept places → AreKept (set places at (Some kept))
 kept_first places at kept low none last are = record {
   within = λ a one is.
       let more = filled_more places at kept low none in
@@ -108,14 +121,16 @@ kept_first places at kept low none last are = record {
 -- ---- the copies
 
 -- a block behind others
-pub block_added : (bytes block : List ℕ) (count : ℕ) → length bytes ≡ block_size * count → IsBlock block → blocks_of (bytes ++ block) count ≡ block
+pub block_added : (bytes block : List ℕ) (count : ℕ) → length bytes ≡ block_size * count → IsBlock block
+    → blocks_of (bytes ++ block) count ≡ block
 block_added bytes block count many whole =
     ap (λ n. take block_size (drop n (bytes ++ block))) (sym many)
     ∙ ap (λ l. take block_size l) (drop-append_seam bytes block)
     ∙ take_all block_size block (omega (arith, whole))
 
 -- those before it stay
-pub block_kept : (bytes block : List ℕ) (count at : ℕ) → length bytes ≡ block_size * count → at < count → blocks_of (bytes ++ block) at ≡ blocks_of bytes at
+pub block_kept : (bytes block : List ℕ) (count at : ℕ) → length bytes ≡ block_size * count → at < count
+    → blocks_of (bytes ++ block) at ≡ blocks_of bytes at
 block_kept bytes block count at many low =
     let start : block_size * at ≤ length bytes = omega (arith, many, low) in
     let size : length (drop (block_size * at) bytes) ≡ length bytes - block_size * at = length-drop (block_size * at) bytes in

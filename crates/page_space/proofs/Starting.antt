@@ -17,7 +17,8 @@ pub catalog_at : (count p : ℕ) → 1 ≤ p → first_page count p ≡ catalog_
 catalog_at count p from = ap (λ b. cond b (superblock_page (empty_of count)) catalog_page) (ne_eqb p 0 (λ none. omega (arith, none, from)))
 
 -- one more page of the catalog is put
-pub first_more : (count n : ℕ) (old new : List Entry) (page : List ℕ) → 1 ≤ n → page ≡ catalog_page → ((p : ℕ) → page_in new p ≡ cond (eqb p n) (Some page) (page_in old p))
+pub first_more : (count n : ℕ) (old new : List Entry) (page : List ℕ) → 1 ≤ n → page ≡ catalog_page
+    → ((p : ℕ) → page_in new p ≡ cond (eqb p n) (Some page) (page_in old p))
     → ((p : ℕ) → page_in old p ≡ page_in (first_below count n) p) → (p : ℕ) → page_in new p ≡ page_in (first_below count (n + 1)) p
 first_more count n old new page from is put was p =
     let more : n + 1 ≡ suc n = omega arith in

@@ -1,5 +1,6 @@
 -- Numbers in four bytes.
-use Rattle.std.proofs.Common.{◌≡◌, ℕ, zero, suc, ◌+◌, ◌-◌, ◌<◌, ◌≤◌, ◌^◌, List, [], ◌∷◌, ◌++◌, length, take, drop, get_or, refl, sym, ap, arith, ◌∙◌}
+use Rattle.std.proofs.Common.{◌≡◌, ℕ, zero, suc, ◌+◌, ◌-◌, ◌<◌, ◌≤◌, ◌^◌, List, [], ◌∷◌, ◌++◌, length, take, drop, get_or, refl, sym, ap}
+use Rattle.std.proofs.Common.{arith, ◌∙◌}
 use Rattle.std.proofs.Math.Seq.{take-length, drop-length}
 use Rattle.std.proofs.lemmas.Nat.{from_be_bytes-to_be_bytes_4, be_bytes_4}
 use borrow.Rule.Slice.PartMut.{mid_of, post_of, put_mid, Post-is}
@@ -30,7 +31,8 @@ word_front a b xs ys small small' same =
     )
 
 -- a number that was read, and what stands behind it
-pub word_taken : (bytes : List ℕ) (n : ℕ) → ((i : ℕ) → get_or bytes i 0 < 256) → 4 ≤ length bytes → n ≡ big_number 4 bytes → bytes ≡ word n ++ take (length bytes - 4) (drop 4 bytes)
+pub word_taken : (bytes : List ℕ) (n : ℕ) → ((i : ℕ) → get_or bytes i 0 < 256) → 4 ≤ length bytes → n ≡ big_number 4 bytes
+    → bytes ≡ word n ++ take (length bytes - 4) (drop 4 bytes)
 unfolding word
 word_taken (a ∷ b ∷ c ∷ d ∷ rest) n fits long is =
     let bytes : List ℕ = a ∷ b ∷ c ∷ d ∷ rest in
@@ -52,9 +54,11 @@ word_taken (a ∷ b ∷ []) n fits long is = absurd (omega (arith, long))
 word_taken (a ∷ b ∷ c ∷ []) n fits long is = absurd (omega (arith, long))
 
 -- a number that was put in its place
-pub placed : (at n : ℕ) (page written : List ℕ) → at ≤ length page → written ≡ word n ++ drop 4 (mid_of at (length page - at) page) → put_mid at (length page - at) page written ≡ take at page ++ (word n ++ drop (at + 4) page)
+pub placed : (at n : ℕ) (page written : List ℕ) → at ≤ length page → written ≡ word n ++ drop 4 (mid_of at (length page - at) page)
+    → put_mid at (length page - at) page written ≡ take at page ++ (word n ++ drop (at + 4) page)
 placed at n page written within is =
-    let middle : mid_of at (length page - at) page ≡ drop at page = take_all (length page - at) (drop at page) (omega (arith, length-drop at page)) in
+    let middle : mid_of at (length page - at) page ≡ drop at page = take_all (length page - at) (drop at page)
+    (omega (arith, length-drop at page)) in
     let nothing : post_of at (length page - at) page ≡ [] = Post-is at (length page) page within ∙ drop-length page in
     ap (λ l. take at page ++ (written ++ l)) nothing
     ∙ ap (λ l. take at page ++ l) (append-nil written)

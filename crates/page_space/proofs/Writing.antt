@@ -1,5 +1,6 @@
 -- Pages written from front to back, and read so.
-use Rattle.std.proofs.Common.{◌≡◌, ℕ, suc, ◌+◌, Bool, true, false, ◌↔◌, IsTrue, List, [], ◌∷◌, ◌++◌, length, take, drop, refl, sym, ap, arith, zero-add, ◌∙◌}
+use Rattle.std.proofs.Common.{◌≡◌, ℕ, suc, ◌+◌, Bool, true, false, ◌↔◌, IsTrue, List, [], ◌∷◌, ◌++◌, length, take, drop, refl, sym, ap}
+use Rattle.std.proofs.Common.{arith, zero-add, ◌∙◌}
 use Rattle.std.specs.Prelude.{replicate}
 use Rattle.std.proofs.lemmas.List.{append_assoc, append_cancel_left}
 use Rattle.page_space.specs.declared.superblock.Superblock.{Superblock}
@@ -22,11 +23,13 @@ drop_zeros k =
     ap (λ m. drop {A = ℕ} 4 (replicate m 0)) four
 
 -- a number is put behind what was written
-pub put_step : (front : List ℕ) (at k n : ℕ) (page page' : List ℕ) → length front ≡ at → page ≡ front ++ replicate (4 + k) 0 → page' ≡ take at page ++ (word n ++ drop (at + 4) page) → page' ≡ (front ++ word n) ++ replicate k 0
+pub put_step : (front : List ℕ) (at k n : ℕ) (page page' : List ℕ) → length front ≡ at → page ≡ front ++ replicate (4 + k) 0
+    → page' ≡ take at page ++ (word n ++ drop (at + 4) page) → page' ≡ (front ++ word n) ++ replicate k 0
 put_step front at k n page page' len is put =
     let zeros : List ℕ = replicate (4 + k) 0 in
     let taken : take at (front ++ zeros) ≡ front = ap (λ m. take m (front ++ zeros)) (sym len) ∙ take_front front zeros in
-    let dropped : drop (at + 4) (front ++ zeros) ≡ replicate k 0 = ap (λ m. drop (m + 4) (front ++ zeros)) (sym len) ∙ drop_front front zeros 4 ∙ drop_zeros k in
+    let dropped : drop (at + 4) (front ++ zeros) ≡ replicate k 0 = ap (λ m. drop (m + 4) (front ++ zeros)) (sym len)
+    ∙ drop_front front zeros 4 ∙ drop_zeros k in
     put
     ∙ ap (λ l. take at l ++ (word n ++ drop (at + 4) l)) is
     ∙ ap (λ l. l ++ (word n ++ drop (at + 4) (front ++ zeros))) taken
@@ -55,15 +58,18 @@ written s p1 p2 p3 p4 p5 p6 one two three four five six =
     put_step f5 24 4068 s.series p5 p6 refl is5 six
 
 -- a page of the chain written so
-pub written_freed : (next : ℕ) (p1 p2 : List ℕ) → p1 ≡ (1 ∷ 0 ∷ 0 ∷ 0 ∷ []) ++ replicate 4092 0 → p2 ≡ take 4 p1 ++ (word next ++ drop 8 p1) → p2 ≡ freed_page next
+pub written_freed : (next : ℕ) (p1 p2 : List ℕ) → p1 ≡ (1 ∷ 0 ∷ 0 ∷ 0 ∷ []) ++ replicate 4092 0 → p2 ≡ take 4 p1 ++ (word next ++ drop 8 p1)
+    → p2 ≡ freed_page next
 unfolding freed_page word
 written_freed next p1 p2 one two = put_step (1 ∷ 0 ∷ 0 ∷ 0 ∷ []) 4 4088 next p1 p2 refl one two
 
 -- the rest of a page, told to be zero or not
-pub are_zeros : (all : Bool) (n : ℕ) (l : List ℕ) → (IsTrue all ↔ (l ≡ replicate (length l) 0)) → length l ≡ n → all ≡ true → l ≡ replicate n 0
+pub are_zeros : (all : Bool) (n : ℕ) (l : List ℕ) → (IsTrue all ↔ (l ≡ replicate (length l) 0)) → length l ≡ n → all ≡ true
+    → l ≡ replicate n 0
 are_zeros all n l tells len is = tells.0 is ∙ ap (λ m. replicate m 0) len
 
-pub no_zeros : (all : Bool) (n : ℕ) (l : List ℕ) → (IsTrue all ↔ (l ≡ replicate (length l) 0)) → length l ≡ n → all ≡ false → l ≡ replicate n 0 → ⊥
+pub no_zeros : (all : Bool) (n : ℕ) (l : List ℕ) → (IsTrue all ↔ (l ≡ replicate (length l) 0)) → length l ≡ n → all ≡ false
+    → l ≡ replicate n 0 → ⊥
 no_zeros all n l tells len none is =
     let some : all ≡ true = tells.1 (is ∙ ap (λ m. replicate m 0) (sym len)) in
     cc
@@ -97,12 +103,14 @@ read_none a b c d e numbers r1 r2 r3 r4 r5 one two three four five other s same 
     other (sym (behind s.series e _ _ (at4 ∙ five)))
 
 -- a page of the chain read so
-pub freed_some : (next : ℕ) (page rest zeros : List ℕ) → page ≡ (1 ∷ 0 ∷ 0 ∷ 0 ∷ []) ++ rest → rest ≡ word next ++ zeros → zeros ≡ replicate 4088 0 → page ≡ freed_page next
+pub freed_some : (next : ℕ) (page rest zeros : List ℕ) → page ≡ (1 ∷ 0 ∷ 0 ∷ 0 ∷ []) ++ rest → rest ≡ word next ++ zeros
+    → zeros ≡ replicate 4088 0 → page ≡ freed_page next
 unfolding freed_page
 freed_some next page rest zeros marked named is =
     marked ∙ ap (λ l. 1 ∷ 0 ∷ 0 ∷ 0 ∷ l) named ∙ ap (λ l. 1 ∷ 0 ∷ 0 ∷ 0 ∷ (word next ++ l)) is
 
-pub freed_none : (next : ℕ) (page rest zeros : List ℕ) → page ≡ (1 ∷ 0 ∷ 0 ∷ 0 ∷ []) ++ rest → rest ≡ word next ++ zeros → (zeros ≡ replicate 4088 0 → ⊥) → (n : ℕ) → page ≡ freed_page n → ⊥
+pub freed_none : (next : ℕ) (page rest zeros : List ℕ) → page ≡ (1 ∷ 0 ∷ 0 ∷ 0 ∷ []) ++ rest → rest ≡ word next ++ zeros
+    → (zeros ≡ replicate 4088 0 → ⊥) → (n : ℕ) → page ≡ freed_page n → ⊥
 unfolding freed_page
 freed_none next page rest zeros marked named other n is =
     other (behind next n zeros (replicate 4088 0) (sym named ∙ ap (λ l. drop 4 l) (sym marked ∙ is)))

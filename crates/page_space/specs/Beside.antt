@@ -13,14 +13,16 @@ pub record KeepsBeside (pages : Type 0) (before after : Superblock) (old new : P
 pub beside_none : (pages : Type 0) (before : Superblock) (old : PageCache) → pages → KeepsBeside pages before before old old
 beside_none pages before old are = record { pages_are = are; superblock = refl; cache = refl }
 
-pub beside_then : (one two both : Type 0) (s s' s'' : Superblock) (old between new : PageCache) → (one → two → both) → KeepsBeside one s s' old between → KeepsBeside two s' s'' between new → KeepsBeside both s s'' old new
+pub beside_then : (one two both : Type 0) (s s' s'' : Superblock) (old between new : PageCache) → (one → two → both)
+    → KeepsBeside one s s' old between → KeepsBeside two s' s'' between new → KeepsBeside both s s'' old new
 beside_then one two both s s' s'' old between new join first second = record {
   pages_are = join first.pages_are second.pages_are;
   superblock = second.superblock ∙ first.superblock;
   cache = second.cache ∙ first.cache;
 }
 
-pub beside_so : (one two : Type 0) (before after : Superblock) (old new : PageCache) → (one → two) → KeepsBeside one before after old new → KeepsBeside two before after old new
+pub beside_so : (one two : Type 0) (before after : Superblock) (old new : PageCache) → (one → two) → KeepsBeside one before after old new
+    → KeepsBeside two before after old new
 beside_so one two before after old new more keeps = record {
   pages_are = more keeps.pages_are;
   superblock = keeps.superblock;

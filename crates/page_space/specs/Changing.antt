@@ -8,15 +8,19 @@ use Rattle.page_space.specs.Transactions.{left_by}
 
 -- where pages stand with these numbers, a transaction would leave them standing with the same pages in use and freed
 abbrev pub StandsAs : Superblock → Txn → Type 0
-StandsAs s txn = (count : ℕ) (image : Image) (taken freed : List ℕ) → Stands count image s taken freed → Stands count (left_by txn image) txn.superblock taken freed
+StandsAs s txn = (count : ℕ) (image : Image) (taken freed : List ℕ) → Stands count image s taken freed
+    → Stands count (left_by txn image) txn.superblock taken freed
 
 -- where what a transaction would leave stands, it does so afterwards, with the same pages in use and freed
 abbrev pub KeepsStanding : Txn → Txn → Type 0
-KeepsStanding old new = (count : ℕ) (image : Image) (taken freed : List ℕ) → Stands count (left_by old image) old.superblock taken freed → Stands count (left_by new image) new.superblock taken freed
+KeepsStanding old new = (count : ℕ) (image : Image) (taken freed : List ℕ) → Stands count (left_by old image) old.superblock taken freed
+    → Stands count (left_by new image) new.superblock taken freed
 
 -- and so where this page isn't a freed one
 abbrev pub KeepsStandingOff : ℕ → Txn → Txn → Type 0
-KeepsStandingOff p old new = (count : ℕ) (image : Image) (taken freed : List ℕ) → Stands count (left_by old image) old.superblock taken freed → times p freed ≡ 0 → Stands count (left_by new image) new.superblock taken freed
+KeepsStandingOff p old new = (count : ℕ) (image : Image) (taken freed : List ℕ)
+    → Stands count (left_by old image) old.superblock taken freed → times p freed ≡ 0
+    → Stands count (left_by new image) new.superblock taken freed
 
 -- where this page was in use, it is freed, and the others stay
 abbrev pub Frees : ℕ → Txn → Txn → Type 0

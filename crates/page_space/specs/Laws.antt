@@ -15,5 +15,6 @@ PagesStandForOneState =
 abbrev pub PagesStandOn : Type 0
 PagesStandOn =
     (count : ℕ) (old new : Image) (s : Superblock) (taken taken' freed : List ℕ)
-    → new 0 ≡ old 0 → ((p : ℕ) → 0 < times p freed → new p ≡ old p) → ((p : ℕ) → times p taken' ≡ times p taken) → Stands count old s taken freed
+    → new 0 ≡ old 0 → ((p : ℕ) → 0 < times p freed → new p ≡ old p) → ((p : ℕ) → times p taken' ≡ times p taken)
+    → Stands count old s taken freed
     → Stands count new s taken' freed

@@ -91,12 +91,14 @@ module _ {P : Type 0} {g : Ghosts P} where
 
   -- so of each page, where what the transaction would leave stands
   abbrev pub ForStanding : Space P g → Txn → (ℕ → Type 0) → Type 0
-  ForStanding it txn IsSo = IsTold it → (count page : ℕ) (taken freed : List ℕ) → Stands count (left it txn) txn.superblock taken freed → IsSo page
+  ForStanding it txn IsSo = IsTold it → (count page : ℕ) (taken freed : List ℕ) → Stands count (left it txn) txn.superblock taken freed
+      → IsSo page
 
   pub keeps_none : {so : Type 0} (at : Space P g) → so → Keeps so at at
   keeps_none {so} at are = beside_none so at.superblock at.cache are
 
-  pub keeps_then : {one two both : Type 0} (old between new : Space P g) → (one → two → both) → Keeps one old between → Keeps two between new → Keeps both old new
+  pub keeps_then : {one two both : Type 0} (old between new : Space P g) → (one → two → both) → Keeps one old between
+      → Keeps two between new → Keeps both old new
   keeps_then {one} {two} {both} old between new join first second =
       beside_then one two both old.superblock between.superblock new.superblock old.cache between.cache new.cache join first second
 

@@ -8,7 +8,8 @@ ghost use Rattle.page_space.specs.Laws.{PagesStandForOneState, PagesStandOn};
 
 /// Where pages stand, each page that was ever given out is in use or freed, once, and no other page is.
 pub fn pages_stand_apart()
-    ensures { (count : ℕ) (image : Image) (s : Superblock) (taken freed : List ℕ) (p : ℕ) → Stands count image s taken freed → IsApart s taken freed p }
+    ensures { (count : ℕ) (image : Image) (s : Superblock) (taken freed : List ℕ) (p : ℕ) → Stands count image s taken freed
+        → IsApart s taken freed p }
 {}
 
 /// Pages stand for one state alone: the numbers, the chain, and the pages in use, in whatever order.

@@ -35,15 +35,19 @@ impl<P: Pages> Space<P> {
         ensures no_memory { IfErr result (λ back. back.cause ≡ SpaceError.NoMemory → back.value ≡ pages) }
         ensures unsound { IfErr result (λ back. back.cause ≡ SpaceError.DiskFault → (P.view back.value).fit → ⊥) }
         // whole or absent at every moment
-        ensures commits { Commits (first_pages (P.view pages).size) (P.told pages) (P.told (pages_in result)) (P.view pages) (P.view (pages_in result)) }
+        ensures commits { Commits (first_pages (P.view pages).size) (P.told pages) (P.told (pages_in result)) (P.view pages)
+            (P.view (pages_in result)) }
         ensures goes_on { GoesOn (P.under pages) (P.under (pages_in result)) }
-        ensures done { IfOk result (λ space. P.told pages → shown.image space ≡ put_all (first_pages (P.view pages).size) (P.view pages).image) }
+        ensures done { IfOk result (λ space. P.told pages
+            → shown.image space ≡ put_all (first_pages (P.view pages).size) (P.view pages).image) }
         ensures sound { IfOk result (λ space. shown.IsSound space) }
         ensures superblock { IfOk result (λ space. shown.numbers space ≡ empty_of (P.view pages).size) }
         ensures copies { IfOk result (λ space. (p : ℕ) → shown.copies space p ≡ None) }
         // page 0 and the catalog, and behind them the pages from before: no page is in use there, and none is freed
-        ensures first { (p : ℕ) → put_all (first_pages (P.view pages).size) (P.view pages).image p ≡ empty_over (P.view pages).size (P.view pages).image p }
-        ensures empty { Stands (P.view pages).size (put_all (first_pages (P.view pages).size) (P.view pages).image) (empty_of (P.view pages).size) [] [] }
+        ensures first { (p : ℕ) → put_all (first_pages (P.view pages).size) (P.view pages).image p ≡ empty_over (P.view pages).size
+            (P.view pages).image p }
+        ensures empty { Stands (P.view pages).size (put_all (first_pages (P.view pages).size) (P.view pages).image)
+            (empty_of (P.view pages).size) [] [] }
         ensures stands { IfOk result (λ space. P.told pages → Stands (P.view pages).size (shown.image space) (shown.numbers space) [] []) }
     {
         let Ok(cache) = PageCache::new(alloc) else {
@@ -76,11 +80,14 @@ impl<P: Pages> Space<P> {
         ensures quiet_err { IfErr result (λ back. back.cause ≢ SpaceError.DiskFault → (P.view back.value).faults ≡ (P.view pages).faults) }
         ensures reads { Reads (P.told pages) (P.told (pages_in result)) (P.view pages) (P.view (pages_in result)) }
         ensures goes_on { GoesOn (P.under pages) (P.under (pages_in result)) }
-        ensures superblock { IfOk result (λ space. P.told pages → Keeps (P.view pages).size (shown.numbers space) ((P.view pages).image 0)) }
-        ensures only { IfOk result (λ space. P.told pages → (s : Superblock) → Keeps (P.view pages).size s ((P.view pages).image 0) → s ≡ shown.numbers space) }
+        ensures superblock { IfOk result (λ space. P.told pages
+            → Keeps (P.view pages).size (shown.numbers space) ((P.view pages).image 0)) }
+        ensures only { IfOk result (λ space. P.told pages → (s : Superblock) → Keeps (P.view pages).size s ((P.view pages).image 0)
+            → s ≡ shown.numbers space) }
         ensures copies { IfOk result (λ space. (p : ℕ) → shown.copies space p ≡ None) }
         // where page 0 keeps its layout, the disk and the memory alone may fail
-        ensures a_store { P.told pages → (s : Superblock) → Keeps (P.view pages).size s ((P.view pages).image 0) → IfErr result (λ back. IsOutside back.cause) }
+        ensures a_store { P.told pages → (s : Superblock) → Keeps (P.view pages).size s ((P.view pages).image 0)
+            → IfErr result (λ back. IsOutside back.cause) }
     {
         let Ok(cache) = PageCache::new(alloc) else {
             return Err(Back {
@@ -112,8 +119,10 @@ fn write_first<P: Pages>(alloc: Global, pages: &mut P) -> Result<Superblock, Spa
     ensures no_memory { IfErr result (λ cause. cause ≡ SpaceError.NoMemory → pages.new ≡ pages.old) }
     ensures unsound { IfErr result (λ cause. cause ≡ SpaceError.DiskFault → (P.view pages.new).fit → ⊥) }
     ensures goes_on { GoesOn (P.under pages.old) (P.under pages.new) }
-    ensures commits { Commits (first_pages (P.view pages.old).size) (P.told pages.old) (P.told pages.new) (P.view pages.old) (P.view pages.new) }
-    ensures done { P.told pages.old → OnOk result ((P.view pages.new).image ≡ put_all (first_pages (P.view pages.old).size) (P.view pages.old).image) }
+    ensures commits { Commits (first_pages (P.view pages.old).size) (P.told pages.old) (P.told pages.new) (P.view pages.old)
+        (P.view pages.new) }
+    ensures done { P.told pages.old → OnOk result ((P.view pages.new).image ≡ put_all (first_pages (P.view pages.old).size)
+        (P.view pages.old).image) }
     ensures sound { OnOk result (P.view pages.new).fit }
     ensures superblock { IfOk result (λ s. s ≡ empty_of (P.view pages.old).size) }
 {
@@ -132,7 +141,8 @@ fn read_first<P: Pages>(alloc: Global, pages: &mut P) -> Result<Superblock, Spac
     ensures reads { Reads (P.told pages.old) (P.told pages.new) (P.view pages.old) (P.view pages.new) }
     ensures goes_on { GoesOn (P.under pages.old) (P.under pages.new) }
     ensures superblock { IfOk result (λ s. P.told pages.old → Keeps (P.view pages.old).size s ((P.view pages.old).image 0)) }
-    ensures only { IfOk result (λ s. P.told pages.old → (t : Superblock) → Keeps (P.view pages.old).size t ((P.view pages.old).image 0) → t ≡ s) }
+    ensures only { IfOk result (λ s. P.told pages.old → (t : Superblock) → Keeps (P.view pages.old).size t ((P.view pages.old).image 0)
+        → t ≡ s) }
     ensures rules { IfOk result (λ s. IsSuperblock (P.view pages.old).size s) }
 {
     let mut page = vec![in alloc; 0; BLOCK]?;
@@ -150,7 +160,8 @@ fn first_in<P: Pages>(pages: &mut P, page: &mut [u8]) -> Result<Superblock, Spac
     ensures reads { Reads (P.told pages.old) (P.told pages.new) (P.view pages.old) (P.view pages.new) }
     ensures goes_on { GoesOn (P.under pages.old) (P.under pages.new) }
     ensures superblock { IfOk result (λ s. P.told pages.old → Keeps (P.view pages.old).size s ((P.view pages.old).image 0)) }
-    ensures only { IfOk result (λ s. P.told pages.old → (t : Superblock) → Keeps (P.view pages.old).size t ((P.view pages.old).image 0) → t ≡ s) }
+    ensures only { IfOk result (λ s. P.told pages.old → (t : Superblock) → Keeps (P.view pages.old).size t ((P.view pages.old).image 0)
+        → t ≡ s) }
     ensures rules { IfOk result (λ s. IsSuperblock (P.view pages.old).size s) }
 {
     pages.get(SUPERBLOCK, page)?;

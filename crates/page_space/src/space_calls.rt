@@ -1,5 +1,6 @@
 //! The calls of a space, but those that take a page.
-ghost use Rattle.std.specs.Prelude.{◌≡◌, ◌≢◌, ◌≤◌, ◌<◌, ◌+◌, ◌==◌, ◌↔◌, ℕ, List, Some, None, is_some, length, if◌then◌else◌, IfOk, OnOk, OnErr, IsOk, IsTrue, IsFalse};
+ghost use Rattle.std.specs.Prelude.{◌≡◌, ◌≢◌, ◌≤◌, ◌<◌, ◌+◌, ◌==◌, ◌↔◌, ℕ, List, Some, None, is_some, length, if◌then◌else◌, IfOk, OnOk};
+ghost use Rattle.std.specs.Prelude.{OnErr, IsOk, IsTrue, IsFalse};
 ghost use Rattle.block_disk.specs.Blocks.{IsBlock};
 ghost use Rattle.block_disk.specs.Counts.{HasRisen};
 ghost use Rattle.block_disk.specs.View.{Image};
@@ -34,7 +35,8 @@ impl<P: Pages> Space<P> {
     pub fn used(&self) -> u32
         ensures used { result ≡ in_use (shown.numbers self.now) }
         // where the pages stand, page 0 and the catalog, and those behind it that are in use
-        ensures counts { (count : ℕ) (image : Image) (taken freed : List ℕ) → Stands count image (shown.numbers self.now) taken freed → result ≡ 17 + length taken }
+        ensures counts { (count : ℕ) (image : Image) (taken freed : List ℕ) → Stands count image (shown.numbers self.now) taken freed
+            → result ≡ 17 + length taken }
     {
         self.superblock.used()
     }
@@ -80,7 +82,8 @@ impl<P: Pages> Space<P> {
     pub fn holds(&self, p: u32) -> bool
         ensures held { IsTrue result ↔ shown.Holds self.now p }
         // where reads tell the pages, what is held of a page is the page
-        ensures same { shown.IsSound self.now → shown.IsTold self.now → IsTrue result → shown.copies self.now p ≡ Some (shown.image self.now p) }
+        ensures same { shown.IsSound self.now → shown.IsTold self.now → IsTrue result
+            → shown.copies self.now p ≡ Some (shown.image self.now p) }
     {
         self.cache.holds(p)
     }
@@ -149,10 +152,12 @@ impl<P: Pages> Space<P> {
         ensures same { self.new ≡ self.old }
         ensures superblock { IfOk result (λ txn. txn.superblock ≡ shown.numbers self.old) }
         ensures len { IfOk result (λ txn. length (held txn) ≡ 1) }
-        ensures pages { IfOk result (λ txn. (p : ℕ) → held_page txn p ≡ (if p == 0 then Some (superblock_page (shown.numbers self.old)) else None)) }
+        ensures pages { IfOk result (λ txn. (p : ℕ)
+            → held_page txn p ≡ (if p == 0 then Some (superblock_page (shown.numbers self.old)) else None)) }
         ensures stands { IfOk result (λ txn. StandsAs (shown.numbers self.old) txn) }
         // it would leave the pages as they are
-        ensures left { IfOk result (λ txn. shown.IsSound self.old → shown.IsTold self.old → (p : ℕ) → shown.left self.old txn p ≡ shown.image self.old p) }
+        ensures left { IfOk result (λ txn. shown.IsSound self.old → shown.IsTold self.old → (p : ℕ)
+            → shown.left self.old txn p ≡ shown.image self.old p) }
     {
         Txn::new(alloc, self.superblock)
     }
@@ -163,7 +168,8 @@ impl<P: Pages> Space<P> {
         requires p_in_total { p < shown.total self.old }
         requires whole { IsBlock out.old }
         ensures page { shown.IsTold self.old → OnOk result (out.new ≡ shown.left self.old txn.now p) }
-        ensures held { IsTrue (is_some (held_page txn.now p)) → IsOk result × ((self.new ≡ self.old) × (held_page txn.now p ≡ Some out.new)) }
+        ensures held { IsTrue (is_some (held_page txn.now p)) → IsOk result
+            × ((self.new ≡ self.old) × (held_page txn.now p ≡ Some out.new)) }
         ensures reads { shown.ReadsOne self.old self.new }
         ensures goes_on { shown.TimeGoesOn self.old self.new }
         ensures superblock { shown.numbers self.new ≡ shown.numbers self.old }
@@ -203,10 +209,13 @@ impl<P: Pages> Space<P> {
     pub fn free(&mut self, txn: &mut Txn, p: u32)
         requires room { HasRoom txn.old p }
         ensures same { self.new ≡ self.old }
-        ensures nothing { (IsGiven txn.old.superblock.fresh p × (txn.old.superblock.chain + 17 < txn.old.superblock.fresh) → ⊥) → txn.new ≡ txn.old }
-        ensures superblock { IsGiven txn.old.superblock.fresh p → txn.old.superblock.chain + 17 < txn.old.superblock.fresh → txn.new.superblock ≡ with_head txn.old.superblock p }
+        ensures nothing { (IsGiven txn.old.superblock.fresh p × (txn.old.superblock.chain + 17 < txn.old.superblock.fresh) → ⊥)
+            → txn.new ≡ txn.old }
+        ensures superblock { IsGiven txn.old.superblock.fresh p → txn.old.superblock.chain + 17 < txn.old.superblock.fresh
+            → txn.new.superblock ≡ with_head txn.old.superblock p }
         ensures same_total { txn.new.superblock.total ≡ txn.old.superblock.total }
-        ensures page { IsGiven txn.old.superblock.fresh p → txn.old.superblock.chain + 17 < txn.old.superblock.fresh → held_page txn.new p ≡ Some (freed_page txn.old.superblock.head) }
+        ensures page { IsGiven txn.old.superblock.fresh p → txn.old.superblock.chain + 17 < txn.old.superblock.fresh
+            → held_page txn.new p ≡ Some (freed_page txn.old.superblock.head) }
         ensures others { (number : ℕ) → 0 < number → number ≢ p → held_page txn.new number ≡ held_page txn.old number }
         ensures len { length (held txn.new) ≤ (if is_some (held_page txn.old p) then length (held txn.old) else length (held txn.old) + 1) }
         // where the page is in use, it is freed, and the others stay
@@ -251,7 +260,8 @@ impl<P: Pages> Space<P> {
         ensures goes_on { shown.TimeGoesOn self.old self.new }
         ensures done { shown.IsTold self.old → OnOk result (shown.image self.new ≡ shown.left self.old txn) }
         ensures superblock { OnOk result (shown.numbers self.new ≡ txn.superblock) }
-        ensures stands { shown.IsTold self.old → OnOk result (StandsWith (shown.left self.old txn) txn.superblock (shown.image self.new) (shown.numbers self.new)) }
+        ensures stands { shown.IsTold self.old → OnOk result
+            (StandsWith (shown.left self.old txn) txn.superblock (shown.image self.new) (shown.numbers self.new)) }
         ensures old_superblock { OnErr result (shown.numbers self.new ≡ shown.numbers self.old) }
         ensures sound { OnOk result (shown.IsSound self.new) }
         ensures unsound { OnErr result (shown.IsSound self.new → ⊥) }

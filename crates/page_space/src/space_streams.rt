@@ -37,5 +37,6 @@ impl<P: PageWorld> Streams for Space<P> {
 
     ghost sends_more = { λ count more old new within. shown.keeps_so old new (P.sends_more count more old.pages new.pages within) };
 
-    ghost sends_then = { λ first second old between new. shown.keeps_then old between new (P.sends_then first second old.pages between.pages new.pages) };
+    ghost sends_then = { λ first second old between new. shown.keeps_then old between new
+        (P.sends_then first second old.pages between.pages new.pages) };
 }

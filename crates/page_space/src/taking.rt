@@ -27,7 +27,8 @@ impl<P: Pages> Space<P> {
         ensures takes { IfOk result (λ p. shown.TakesPage self.old txn.old txn.new.superblock p) }
         ensures cause { IfErr result (λ cause. shown.RefusesPage cause txn.old self.old self.new) }
         ensures quiet { OnOk result ((shown.view self.new).faults ≡ (shown.view self.old).faults) }
-        ensures quiet_err { IfErr result (λ cause. cause ≢ SpaceError.DiskFault → (shown.view self.new).faults ≡ (shown.view self.old).faults) }
+        ensures quiet_err { IfErr result (λ cause. cause ≢ SpaceError.DiskFault
+            → (shown.view self.new).faults ≡ (shown.view self.old).faults) }
         ensures given { IfOk result (λ p. IsGiven txn.new.superblock.fresh p) }
         ensures one_more { IfOk result (λ p. in_use txn.new.superblock ≡ in_use txn.old.superblock + 1) }
         ensures same_total { txn.new.superblock.total ≡ txn.old.superblock.total }
@@ -58,7 +59,8 @@ impl<P: Pages> Space<P> {
         ensures takes { IfOk result (λ found. shown.TakesPage self.old txn.now found.1 found.0) }
         ensures cause { IfErr result (λ cause. shown.RefusesPage cause txn.now self.old self.new) }
         ensures quiet { OnOk result ((shown.view self.new).faults ≡ (shown.view self.old).faults) }
-        ensures quiet_err { IfErr result (λ cause. cause ≢ SpaceError.DiskFault → (shown.view self.new).faults ≡ (shown.view self.old).faults) }
+        ensures quiet_err { IfErr result (λ cause. cause ≢ SpaceError.DiskFault
+            → (shown.view self.new).faults ≡ (shown.view self.old).faults) }
         ensures reads { shown.ReadsOne self.old self.new }
         ensures goes_on { shown.TimeGoesOn self.old self.new }
         ensures superblock { shown.numbers self.new ≡ shown.numbers self.old }

@@ -40,7 +40,8 @@ impl Txn {
     pub fn used(&self) -> u32
         ensures used { result ≡ in_use self.now.superblock }
         // where the pages stand, page 0 and the catalog, and those behind it that are in use
-        ensures counts { (count : ℕ) (image : Image) (taken freed : List ℕ) → Stands count image self.now.superblock taken freed → result ≡ 17 + length taken }
+        ensures counts { (count : ℕ) (image : Image) (taken freed : List ℕ) → Stands count image self.now.superblock taken freed
+            → result ≡ 17 + length taken }
     {
         self.superblock.used()
     }
@@ -73,7 +74,8 @@ impl Txn {
         requires room { HasRoom self.old p }
         ensures superblock { self.new.superblock ≡ self.old.superblock }
         ensures page { (number : ℕ) → held_page self.new number ≡ (if number == p then Some bytes.now else held_page self.old number) }
-        ensures len { length (held self.new) ≡ (if is_some (held_page self.old p) then length (held self.old) else length (held self.old) + 1) }
+        ensures len { length (held self.new) ≡ (if is_some (held_page self.old p) then length (held self.old)
+            else length (held self.old) + 1) }
     {
         self.batch.put(p, bytes);
     }

@@ -1,5 +1,6 @@
 -- Heaps keep the rules of a page's flags and differences.
-use Rattle.std.proofs.Common.{ℕ, ℤ, List, ◌≡◌, ◌+◌, ◌*◌, ◌/◌, ◌%◌, ◌<◌, sym, ◌∙◌, ap, subst, refl, ◌-ℤ◌, Bool, true, false, ◌==◌, cond, arith}
+use Rattle.std.proofs.Common.{ℕ, ℤ, List, ◌≡◌, ◌+◌, ◌*◌, ◌/◌, ◌%◌, ◌<◌, sym, ◌∙◌, ap, subst, refl, ◌-ℤ◌, Bool, true, false, ◌==◌, cond}
+use Rattle.std.proofs.Common.{arith}
 use Rattle.std.proofs.lemmas.Int.{ints}
 use Rattle.std.proofs.lemmas.Bool.{eqb-true, eqb-false}
 use Rattle.std.specs.Prelude.{Option, None, Some, Result, Ok, Err, OnOk, is_some}
@@ -26,7 +27,8 @@ value_is spans coefs n few heap =
 left_is : (spans : ℕ → Option Span) (coefs : ℕ → Coef) (n : ℕ) → n < 127 → IsHeap spans coefs → (coefs n).left ≡ is_some (spans (2 * n + 1))
 left_is spans coefs n few heap = ap (λ (c : Coef). c.left) (heap n few).coef ∙ coef-left (spans (2 * n + 1)) (spans (2 * n + 2))
 
-right_is : (spans : ℕ → Option Span) (coefs : ℕ → Coef) (n : ℕ) → n < 127 → IsHeap spans coefs → (coefs n).right ≡ is_some (spans (2 * n + 2))
+right_is : (spans : ℕ → Option Span) (coefs : ℕ → Coef) (n : ℕ) → n < 127 → IsHeap spans coefs
+    → (coefs n).right ≡ is_some (spans (2 * n + 2))
 right_is spans coefs n few heap = ap (λ (c : Coef). c.right) (heap n few).coef ∙ coef-right (spans (2 * n + 1)) (spans (2 * n + 2))
 
 apart : (a b : ℤ) → IsValue a → IsValue b → IsTime (a -ℤ b)
@@ -36,18 +38,24 @@ differences : (l r : Option Span) → IsProperIfAny l → IsProperIfAny r → Ha
 differences None None pl pr = record { least = omega arith; greatest = omega arith; flat = λ e. (refl, refl) }
 differences None (Some r) pl pr = record { least = omega arith; greatest = omega arith; flat = λ e. (refl, refl) }
 differences (Some l) None pl pr = record { least = omega arith; greatest = omega arith; flat = λ e. (refl, refl) }
-differences (Some l) (Some r) pl pr = record { least = apart l.min r.min pl.low pr.low; greatest = apart l.max r.max pl.high pr.high; flat = λ e. absurd (cc) }
+differences (Some l) (Some r) pl pr = record {
+  least = apart l.min r.min pl.low pr.low;
+  greatest = apart l.max r.max pl.high pr.high;
+  flat = λ e. absurd (cc);
+}
 
 pub heap_differences : (spans : ℕ → Option Span) (page : List ℕ) → IsHeap spans (coef_at page) → AreProper spans → AreDifferences page
 heap_differences spans page heap proper = λ n few.
     subst HasDifferences (sym (heap n few).coef)
-    (differences (spans (2 * n + 1)) (spans (2 * n + 2)) (proper (2 * n + 1) (omega (arith, few))) (proper (2 * n + 2) (omega (arith, few))))
+    (differences (spans (2 * n + 1)) (spans (2 * n + 2)) (proper (2 * n + 1) (omega (arith, few)))
+    (proper (2 * n + 2) (omega (arith, few))))
 
 side_cases : (b x y z : Bool) → (b ≡ true → x ≡ z) → (b ≡ false → y ≡ z) → cond b x y ≡ z
 side_cases true x y z f g = f refl
 side_cases false x y z f g = g refl
 
-pub heap_children : (spans : ℕ → Option Span) (page : List ℕ) → IsHeap spans (coef_at page) → (child : ℕ) → child < 128 → has_child page child ≡ is_some (spans (127 + child))
+pub heap_children : (spans : ℕ → Option Span) (page : List ℕ) → IsHeap spans (coef_at page) → (child : ℕ) → child < 128
+    → has_child page child ≡ is_some (spans (127 + child))
 heap_children spans page heap child few =
     let n = 63 + child / 2 in
     let low : n < 127 = omega (arith, few) in

@@ -1,5 +1,6 @@
 -- The spans of a page after one step.
-use Rattle.std.proofs.Common.{ℕ, zero, suc, ◌≡◌, ◌≢◌, ◌+◌, ◌-◌, ◌*◌, ◌/◌, ◌%◌, ◌<◌, ◌≤◌, ◌⊎◌, inl, inr, List, length, slice_set, replicate, sym, ◌∙◌, ap₂, subst, refl, arith}
+use Rattle.std.proofs.Common.{ℕ, zero, suc, ◌≡◌, ◌≢◌, ◌+◌, ◌-◌, ◌*◌, ◌/◌, ◌%◌, ◌<◌, ◌≤◌, ◌⊎◌, inl, inr, List, length, slice_set, replicate}
+use Rattle.std.proofs.Common.{sym, ◌∙◌, ap₂, subst, refl, arith}
 use Rattle.std.proofs.lemmas.Bool.{cases_lt, cases_eq}
 use Rattle.std.proofs.lemmas.List.{get_or-set_other}
 use Rattle.std.proofs.lemmas.Grind.{get_or-set_at}
@@ -18,7 +19,8 @@ none_at (suc m) zero = refl
 none_at (suc m) (suc n) = none_at m n
 
 -- a span that was set is proper, as all others are
-pub proper_set : (spans : List (Option Span)) (i : ℕ) (s : Option Span) → i < length spans → AreProper (span_at spans) → IsProperIfAny s → AreProper (span_at (slice_set spans i s))
+pub proper_set : (spans : List (Option Span)) (i : ℕ) (s : Option Span) → i < length spans → AreProper (span_at spans) → IsProperIfAny s
+    → AreProper (span_at (slice_set spans i s))
 proper_set spans i s within all one = λ n few.
     elim (cases_eq n i) [
       | inl same ↦ subst IsProperIfAny (sym (get_or-set_at spans i n s None same within)) one
@@ -37,10 +39,12 @@ halves_same s s' l l' r r' c c' es el er ec h =
     let S : Coef → Type 0 = λ x. HasHalves s x l r in
     subst P (sym es) (subst Q (sym el) (subst R (sym er) (subst S ec h)))
 
-split_stays : (old new : ℕ → Option Span) (coefs : ℕ → Coef) (i n : ℕ) → n < i → OthersStay old new i → IsSplit old coefs n → IsSplit new coefs n
+split_stays : (old new : ℕ → Option Span) (coefs : ℕ → Coef) (i n : ℕ) → n < i → OthersStay old new i → IsSplit old coefs n
+    → IsSplit new coefs n
 split_stays old new coefs i n less others h =
     halves_same (old n) (new n) (old (2 * n + 1)) (new (2 * n + 1)) (old (2 * n + 2)) (new (2 * n + 2)) (coefs n) (coefs n)
-    (others n (omega arith) (omega arith)) (others (2 * n + 1) (omega arith) (omega arith)) (others (2 * n + 2) (omega arith) (omega arith)) refl h
+    (others n (omega arith) (omega arith)) (others (2 * n + 1) (omega arith) (omega arith))
+    (others (2 * n + 2) (omega arith) (omega arith)) refl h
 
 split_here : (old new : ℕ → Option Span) (coefs : ℕ → Coef) (c : Coef) (i : ℕ) → OthersStay old new i → c ≡ coefs i
     → HasHalves (old i) c (new (2 * i + 1)) (new (2 * i + 2)) → IsSplit new coefs i
@@ -49,7 +53,8 @@ split_here old new coefs c i others is h =
     (others i (omega arith) (omega arith)) refl refl is h
 
 -- one node more is split
-pub splits_more : (old new : ℕ → Option Span) (coefs : ℕ → Coef) (c : Coef) (i : ℕ) → ((n : ℕ) → n < i → IsSplit old coefs n) → OthersStay old new i → c ≡ coefs i
+pub splits_more : (old new : ℕ → Option Span) (coefs : ℕ → Coef) (c : Coef) (i : ℕ) → ((n : ℕ) → n < i → IsSplit old coefs n)
+    → OthersStay old new i → c ≡ coefs i
     → HasHalves (old i) c (new (2 * i + 1)) (new (2 * i + 2)) → (n : ℕ) → n < i + 1 → IsSplit new coefs n
 splits_more old new coefs c i before others is h = λ n few.
     elim (cases_lt n i) [
@@ -60,7 +65,8 @@ splits_more old new coefs c i before others is h = λ n few.
     ]
 
 -- the node is the first one that can't be split
-pub first_bad : (old new : ℕ → Option Span) (coefs : ℕ → Coef) (c : Coef) (i : ℕ) → i < 127 → ((n : ℕ) → n < i → IsSplit old coefs n) → OthersStay old new i → c ≡ coefs i
+pub first_bad : (old new : ℕ → Option Span) (coefs : ℕ → Coef) (c : Coef) (i : ℕ) → i < 127 → ((n : ℕ) → n < i → IsSplit old coefs n)
+    → OthersStay old new i → c ≡ coefs i
     → IsUnsplit (old i) c → IsFirstBad new coefs i
 first_bad old new coefs c i few before others is none =
     let P : Option Span → Type 0 = λ s. IsUnsplit s (coefs i) in
@@ -102,7 +108,8 @@ one_above : (place n i : ℕ) → (place ≡ 2 * n + 1) ⊎ (place ≡ 2 * n + 2
 one_above place n i a b = omega (arith, a, b)
 
 -- a node was joined: now all are but the one above it
-pub joins_above : (old new : ℕ → Option Span) (before after : ℕ → Coef) (place i : ℕ) → AllButAbove old before place → (place ≡ 2 * i + 1) ⊎ (place ≡ 2 * i + 2)
+pub joins_above : (old new : ℕ → Option Span) (before after : ℕ → Coef) (place i : ℕ) → AllButAbove old before place
+    → (place ≡ 2 * i + 1) ⊎ (place ≡ 2 * i + 2)
     → new i ≡ hull (old (2 * i + 1)) (old (2 * i + 2)) → after i ≡ coef_of (old (2 * i + 1)) (old (2 * i + 2))
     → ((n : ℕ) → n ≢ i → new n ≡ old n) → ((n : ℕ) → n < 127 → n ≢ i → after n ≡ before n) → AllButAbove new after i
 joins_above old new before after place i rest half span coef others coefs = λ n few no_left no_right.
@@ -116,7 +123,8 @@ joins_above old new before after place i rest half span coef others coefs = λ n
           subst (λ (n : ℕ). after n ≡ coef_of (old (2 * n + 1)) (old (2 * n + 2))) (sym same) coef in
           record { span = s ∙ sym (ap₂ hull left right); coef = c ∙ sym (ap₂ coef_of left right) }
       | inr other ↦
-          let h : IsJoined old before n = rest n few (λ e. other (one_above place n i (inl e) half)) (λ e. other (one_above place n i (inr e) half)) in
+          let h : IsJoined old before n = rest n few (λ e. other (one_above place n i (inl e) half))
+          (λ e. other (one_above place n i (inr e) half)) in
           record {
             span = others n other ∙ h.span ∙ sym (ap₂ hull left right);
             coef = coefs n few other ∙ h.coef ∙ sym (ap₂ coef_of left right);
@@ -124,7 +132,8 @@ joins_above old new before after place i rest half span coef others coefs = λ n
     ]
 
 -- a leaf was set: all nodes are joined but the one above it
-pub leaf_set : (old new : ℕ → Option Span) (coefs : ℕ → Coef) (leaf : ℕ) → IsHeap old coefs → 127 ≤ leaf → ((n : ℕ) → n ≢ leaf → new n ≡ old n) → AllButAbove new coefs leaf
+pub leaf_set : (old new : ℕ → Option Span) (coefs : ℕ → Coef) (leaf : ℕ) → IsHeap old coefs → 127 ≤ leaf
+    → ((n : ℕ) → n ≢ leaf → new n ≡ old n) → AllButAbove new coefs leaf
 leaf_set old new coefs leaf heap low others = λ n few no_left no_right.
     let left : new (2 * n + 1) ≡ old (2 * n + 1) = others (2 * n + 1) (λ e. no_left (sym e)) in
     let right : new (2 * n + 2) ≡ old (2 * n + 2) = others (2 * n + 2) (λ e. no_right (sym e)) in

@@ -18,7 +18,8 @@ key_of_leaf level index leaf = record { level = 7 * (level - 1); index = 128 * i
 
 -- the nodes hold the list's coefficients of their keys
 abbrev pub AreNodesOf : List (Option ℤ) → ℕ → ℕ → List ℕ → Type 0
-AreNodesOf list level index page = (k : Key) → 1 ≤ k.level → page_level k.level ≡ level → page_index k ≡ index → coef_at page (node_number k) ≡ coef list k
+AreNodesOf list level index page = (k : Key) → 1 ≤ k.level → page_level k.level ≡ level → page_index k ≡ index
+    → coef_at page (node_number k) ≡ coef list k
 
 -- the leaves have the list's spans of their keys
 abbrev pub AreLeavesOf : List (Option ℤ) → ℕ → ℕ → (ℕ → Option Span) → Type 0

@@ -46,7 +46,8 @@ impl PageSpans {
     /// No spans: those of a page below which nothing is stored.
     pub fn new() -> PageSpans
         ensures none { (n : ℕ) → span_at result n ≡ None }
-        ensures leaves { (list : List (Option ℤ)) (level index : ℕ) → 1 ≤ level → span list (key_of_top level index) ≡ None → AreLeavesOf list level index (span_at result) }
+        ensures leaves { (list : List (Option ℤ)) (level index : ℕ) → 1 ≤ level → span list (key_of_top level index) ≡ None
+            → AreLeavesOf list level index (span_at result) }
     {
         PageSpans { spans: no_spans() }
     }
@@ -54,7 +55,8 @@ impl PageSpans {
     /// Takes all spans away.
     pub fn clear(&mut self)
         ensures none { (n : ℕ) → span_at self.new n ≡ None }
-        ensures leaves { (list : List (Option ℤ)) (level index : ℕ) → 1 ≤ level → span list (key_of_top level index) ≡ None → AreLeavesOf list level index (span_at self.new) }
+        ensures leaves { (list : List (Option ℤ)) (level index : ℕ) → 1 ≤ level → span list (key_of_top level index) ≡ None
+            → AreLeavesOf list level index (span_at self.new) }
     {
         *self = PageSpans::new();
     }
@@ -73,10 +75,12 @@ impl PageSpans {
             → OnErr result ⊥ }
         ensures same { (want : ℕ → Option Span) → IsHeap want (coef_at page.now.bytes.now) → AreProper want → want 0 ≡ Some top
             → (n : ℕ) → n < 255 → span_at self.new n ≡ want n }
-        ensures split { (list : List (Option ℤ)) (level index : ℕ) → AreSlots list → 1 ≤ level → AreNodesOf list level index page.now.bytes.now
+        ensures split { (list : List (Option ℤ)) (level index : ℕ) → AreSlots list → 1 ≤ level
+            → AreNodesOf list level index page.now.bytes.now
             → Some top ≡ span list (key_of_top level index) → OnErr result ⊥ }
         ensures leaves { SpreadsLists page.now.bytes.now top (span_at self.new) }
-        ensures children { OnOk result ((child : ℕ) → child < 128 → has_child page.now.bytes.now child ≡ is_some (span_at self.new (127 + child))) }
+        ensures children { OnOk result ((child : ℕ) → child < 128
+            → has_child page.now.bytes.now child ≡ is_some (span_at self.new (127 + child))) }
         ensures seen { SpreadsSeen page.now.bytes.now top result (span_at self.new) }
         ensures bad_key { BlamesSeen page.now.bytes.now top result }
     {
@@ -123,7 +127,8 @@ impl PageSpans {
         ensures flags { IsSome (span_at self.new 0) → flag_at bytes.old 254 ≡ false → flag_at bytes.old 255 ≡ false → AreFlags bytes.new }
         ensures differences { AreDifferences bytes.new }
         ensures children { (child : ℕ) → child < 128 → has_child bytes.new child ≡ is_some (span_at self.old (127 + child)) }
-        ensures nodes { (list : List (Option ℤ)) (level index : ℕ) → 1 ≤ level → AreLeavesOf list level index (span_at self.old) → AreNodesOf list level index bytes.new }
+        ensures nodes { (list : List (Option ℤ)) (level index : ℕ) → 1 ≤ level → AreLeavesOf list level index (span_at self.old)
+            → AreNodesOf list level index bytes.new }
         ensures top { (list : List (Option ℤ)) (level index : ℕ) → 1 ≤ level → AreLeavesOf list level index (span_at self.old)
             → span_at self.new 0 ≡ span list (key_of_top level index) }
     {
@@ -146,7 +151,8 @@ impl PageSpans {
         ensures flags { IsSome (span_at self.new 0) → flag_at bytes.old 254 ≡ false → flag_at bytes.old 255 ≡ false → AreFlags bytes.new }
         ensures differences { AreDifferences bytes.new }
         ensures children { (child : ℕ) → child < 128 → has_child bytes.new child ≡ is_some (span_at self.new (127 + child)) }
-        ensures nodes { (list : List (Option ℤ)) (level index : ℕ) → 1 ≤ level → AreLeavesOf list level index (span_at self.new) → AreNodesOf list level index bytes.new }
+        ensures nodes { (list : List (Option ℤ)) (level index : ℕ) → 1 ≤ level → AreLeavesOf list level index (span_at self.new)
+            → AreNodesOf list level index bytes.new }
         ensures top { (list : List (Option ℤ)) (level index : ℕ) → 1 ≤ level → AreLeavesOf list level index (span_at self.new)
             → span_at self.new 0 ≡ span list (key_of_top level index) }
     {

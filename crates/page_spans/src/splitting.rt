@@ -29,7 +29,8 @@ fn split_node(spans: &mut [Option<Span>], node: u8, coef: Coef) -> Result<(), Ba
     requires proper { AreProper (span_at spans.old) }
     ensures whole { length spans.new ≡ 255 }
     ensures proper { AreProper (span_at spans.new) }
-    ensures halves { OnOk result (HasHalves (span_at spans.old node) coef (span_at spans.new (2 * node + 1)) (span_at spans.new (2 * node + 2))) }
+    ensures halves { OnOk result (HasHalves (span_at spans.old node) coef (span_at spans.new (2 * node + 1))
+        (span_at spans.new (2 * node + 2))) }
     ensures others { (n : ℕ) → n ≢ 2 * node + 1 → n ≢ 2 * node + 2 → span_at spans.new n ≡ span_at spans.old n }
     ensures none { OnErr result (IsUnsplit (span_at spans.old node) coef) }
 {

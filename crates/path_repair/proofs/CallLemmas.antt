@@ -12,11 +12,14 @@ use Rattle.path_repair.proofs.DamageLemmas.{root_top}
 use Rattle.path_repair.proofs.ReadLemmas.{count_less}
 use Rattle.path_repair.proofs.TouchLemmas.{touch_one, touch_wide, touch_lower, touch_behind}
 
-pub same_touch : (first end height level height' level' : ℕ) → height' ≡ height → level' ≡ level → touch first end height' level' 0 ≡ touch first end height level 0
-same_touch first end height level height' level' is_height is_level = ap (λ h. touch first end h level' 0) is_height ∙ ap (λ l. touch first end height l 0) is_level
+pub same_touch : (first end height level height' level' : ℕ) → height' ≡ height → level' ≡ level
+    → touch first end height' level' 0 ≡ touch first end height level 0
+same_touch first end height level height' level' is_height is_level = ap (λ h. touch first end h level' 0) is_height
+    ∙ ap (λ l. touch first end height l 0) is_level
 
 -- the first pass reads at most the touched pages of the old tree
-pub first_reads : (page first end height level height' level' : ℕ) → height' ≡ height → level' ≡ level → height ≤ level → count_most page first end height' level' 0 ≤ touch first end height height 0
+pub first_reads : (page first end height level height' level' : ℕ) → height' ≡ height → level' ≡ level → height ≤ level
+    → count_most page first end height' level' 0 ≤ touch first end height height 0
 first_reads page first end height level height' level' is_height is_level less =
     omega (
       arith,
@@ -32,7 +35,9 @@ max_past : (a b n : ℕ) → max a b ≡ n → a < n → n ≡ b
 max_past a b n is past = grind (arith, is, past)
 
 -- both passes read at most twice what the change touches
-pub twice : (first end slots len : ℕ) → slots ≤ len → touch first end (page_levels slots) (page_levels slots) 0 + touch first end (page_levels slots) (page_levels len) 0 ≤ 2 * touch first end (page_levels slots) (page_levels len) 0
+pub twice : (first end slots len : ℕ) → slots ≤ len
+    → touch first end (page_levels slots) (page_levels slots) 0 + touch first end (page_levels slots)
+    (page_levels len) 0 ≤ 2 * touch first end (page_levels slots) (page_levels len) 0
 twice first end slots len more = omega (arith, touch_lower first end (page_levels slots) (page_levels len) (levels_more slots len more))
 
 -- fewer page levels don't hold more slots
@@ -68,28 +73,48 @@ behind : (slots slot : ℕ) → page_levels slots < page_levels (max slots (slot
 behind slots slot more = elim (cases_lt slots (max slots (slot + 1))) [
   | inl past ↦
       let is : max slots (slot + 1) ≡ slot + 1 = max_past slots (slot + 1) (max slots (slot + 1)) refl past in
-      let beyond : 2 ^ (7 * page_levels slots) < slot + 1 = levels_past (slot + 1) (page_levels slots) (levels_some slots) (omega (arith, more, ap (λ n. page_levels n) is)) in
+      let beyond : 2 ^ (7 * page_levels slots) < slot + 1 = levels_past (slot + 1) (page_levels slots) (levels_some slots)
+      (omega (arith, more, ap (λ n. page_levels n) is)) in
       omega (arith, beyond)
   | inr same ↦ absurd (omega (arith, more, levels_more (max slots (slot + 1)) slots same))
 ]
 
 -- one slot: a read a page level in each pass
-pub slot_reads : (slots slot : ℕ) → touch slot (slot + 1) (page_levels slots) (page_levels slots) 0 + touch slot (slot + 1) (page_levels slots) (page_levels (max slots (slot + 1))) 0 ≤ 2 * page_levels (max slots (slot + 1))
+pub slot_reads : (slots slot : ℕ) → touch slot (slot + 1) (page_levels slots) (page_levels slots) 0 + touch slot (slot + 1)
+    (page_levels slots) (page_levels (max slots (slot + 1))) 0 ≤ 2 * page_levels (max slots (slot + 1))
 slot_reads slots slot =
     let h = page_levels slots in
     let k = page_levels (max slots (slot + 1)) in
     elim (cases_lt h k) [
       | inl more ↦ omega (arith, touch_behind slot (slot + 1) h (behind slots slot more), touch_one slot h k)
-      | inr same ↦ omega (arith, touch_one slot h h, touch_one slot h k, levels_more slots (max slots (slot + 1)) (max_first slots (slot + 1)), same)
+      | inr same ↦ omega (
+        arith,
+        touch_one slot h h,
+        touch_one slot h k,
+        levels_more slots (max slots (slot + 1)) (max_first slots (slot + 1)),
+        same,
+      )
     ]
 
-pub slot_puts : (slots slot : ℕ) → touch slot (slot + 1) (page_levels slots) (page_levels (max slots (slot + 1))) 0 ≤ 2 * page_levels (max slots (slot + 1))
+pub slot_puts : (slots slot : ℕ) → touch slot (slot + 1) (page_levels slots) (page_levels (max slots (slot + 1))) 0 ≤ 2 * page_levels
+    (max slots (slot + 1))
 slot_puts slots slot = omega (arith, touch_one slot (page_levels slots) (page_levels (max slots (slot + 1))))
 
-pub run_puts : (first n slots len : ℕ) → n ≤ 256 → touch first (first + n) (page_levels slots) (page_levels len) 0 ≤ 30 + 2 * page_levels len
+pub run_puts : (first n slots len : ℕ) → n ≤ 256 → touch first (first + n) (page_levels slots)
+    (page_levels len) 0 ≤ 30 + 2 * page_levels len
 run_puts first n slots len few =
-    omega (arith, touch_wide 3 first (first + n) n (page_levels slots) (page_levels len) (omega arith) (omega arith) (omega (arith, few)) (omega (arith, few)), levels_few len)
+    omega (
+      arith,
+      touch_wide 3 first (first + n) n (page_levels slots) (page_levels len) (omega arith) (omega arith) (omega (arith, few))
+          (omega (arith, few)),
+      levels_few len,
+    )
 
-pub clear_puts : (first n slots : ℕ) → n ≤ 4096 → touch first (first + n) (page_levels slots) (page_levels slots) 0 ≤ 30 + 2 * page_levels slots
+pub clear_puts : (first n slots : ℕ) → n ≤ 4096 → touch first (first + n) (page_levels slots)
+    (page_levels slots) 0 ≤ 30 + 2 * page_levels slots
 clear_puts first n slots few =
-    omega (arith, touch_wide 33 first (first + n) n (page_levels slots) (page_levels slots) (omega arith) (omega arith) few (omega (arith, few)))
+    omega (
+      arith,
+      touch_wide 33 first (first + n) n (page_levels slots) (page_levels slots) (omega arith) (omega arith) few
+          (omega (arith, few)),
+    )

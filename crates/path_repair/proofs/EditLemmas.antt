@@ -1,5 +1,6 @@
 -- A tree before and after a change.
-use Rattle.std.proofs.Common.{◌≡◌, ℕ, ℤ, zero, suc, ◌+◌, ◌*◌, ◌^◌, ◌<◌, ◌≤◌, ◌++◌, ◌∷◌, ◌||◌, Bool, true, false, List, [], length, slice_get, Option, None, Some, refl, sym, ap, ap₂, subst, arith, inl, inr, ◌∙◌}
+use Rattle.std.proofs.Common.{◌≡◌, ℕ, ℤ, zero, suc, ◌+◌, ◌*◌, ◌^◌, ◌<◌, ◌≤◌, ◌++◌, ◌∷◌, ◌||◌, Bool, true, false, List, [], length}
+use Rattle.std.proofs.Common.{slice_get, Option, None, Some, refl, sym, ap, ap₂, subst, arith, inl, inr, ◌∙◌}
 use Rattle.std.proofs.lemmas.Bool.{cases_lt}
 use Rattle.std.proofs.lemmas.Bool.Decides.{eqb_tells, nat_tests}
 use Rattle.std.proofs.lemmas.List.{length-append}
@@ -49,12 +50,17 @@ top_whole : (list : List (Option ℤ)) (k : ℕ) → length list ≤ 2 ^ (7 * k)
 top_whole list k long = ap₂ (λ a b. span_over list a b) (omega arith) (omega arith) ∙ span_over-all list (2 ^ (7 * k)) long
 
 -- the root of a tree that is to grow
-pub root_for : (image : Image) (total : ℕ) (tree : Tree) (list : List (Option ℤ)) (len : ℕ) → StandsFor image total tree list → tree.slots ≤ len → len ≤ 2 ^ 35 → IsRooted image total list (page_levels tree.slots) (page_levels len) 0 tree.root
+pub root_for : (image : Image) (total : ℕ) (tree : Tree) (list : List (Option ℤ)) (len : ℕ) → StandsFor image total tree list
+    → tree.slots ≤ len → len ≤ 2 ^ 35 → IsRooted image total list (page_levels tree.slots) (page_levels len) 0 tree.root
 root_for image total tree list len stands less few =
     let up : page_levels tree.slots ≤ page_levels len = levels_more tree.slots len less in
     let I : ℕ → Type 0 = λ n. IsTree image total list (page_levels n) 0 tree.root in
     let here : IsTree image total list (page_levels tree.slots) 0 tree.root = subst I (sym stands.slots) stands.pages in
-    let long : length list ≤ 2 ^ (7 * page_levels tree.slots) = omega (arith, stands.slots, height_covers tree.slots (omega (arith, stands.few, stands.slots))) in
+    let long : length list ≤ 2 ^ (7 * page_levels tree.slots) = omega (
+      arith,
+      stands.slots,
+      height_covers tree.slots (omega (arith, stands.few, stands.slots)),
+    ) in
     elim (cases_lt (page_levels tree.slots) (page_levels len)) [
       | inr same ↦
           let at : page_levels tree.slots ≡ page_levels len = omega (arith, up, same) in
@@ -62,18 +68,22 @@ root_for image total tree list len stands less few =
       | inl above ↦ elim (eqb_tells tree.root 0) [
         | inl none ↦
             let longer : length list ≤ 2 ^ (7 * page_levels len) = omega (arith, less, stands.slots, height_covers len few) in
-            let empty : span list (top_of_page (page_levels tree.slots) 0) ≡ None = root_none image total list (page_levels tree.slots) tree.root (levels_some tree.slots) none.1 here in
-            none_rooted image total list (page_levels tree.slots) (page_levels len) 0 tree.root none.1 (top_whole list (page_levels len) longer ∙ sym (top_whole list (page_levels tree.slots) long) ∙ empty)
+            let empty : span list (top_of_page (page_levels tree.slots) 0) ≡ None = root_none image total list
+            (page_levels tree.slots) tree.root (levels_some tree.slots) none.1 here in
+            none_rooted image total list (page_levels tree.slots) (page_levels len) 0 tree.root none.1
+            (top_whole list (page_levels len) longer ∙ sym (top_whole list (page_levels tree.slots) long) ∙ empty)
         | inr some ↦ inr (record { above = above; some = some.1; first = refl; within = long; tree = here })
       ]
     ]
   where
-    root_none : (image : Image) (total : ℕ) (list : List (Option ℤ)) (level page : ℕ) → 1 ≤ level → page ≡ 0 → IsTree image total list level 0 page → span list (top_of_page level 0) ≡ None
+    root_none : (image : Image) (total : ℕ) (list : List (Option ℤ)) (level page : ℕ) → 1 ≤ level → page ≡ 0
+        → IsTree image total list level 0 page → span list (top_of_page level 0) ≡ None
     root_none image total list zero page low none tree = absurd (omega (arith, low))
     root_none image total list (suc level) page low none (inl (is, empty)) = empty
     root_none image total list (suc level) page low none (inr (some, below, stored, nodes, children)) = absurd (some none)
 
-pub root_top : (image : Image) (total : ℕ) (tree : Tree) (list : List (Option ℤ)) (len : ℕ) → StandsFor image total tree list → tree.slots ≤ len → len ≤ 2 ^ 35 → tree.span ≡ span list (top_of_page (page_levels len) 0)
+pub root_top : (image : Image) (total : ℕ) (tree : Tree) (list : List (Option ℤ)) (len : ℕ) → StandsFor image total tree list
+    → tree.slots ≤ len → len ≤ 2 ^ 35 → tree.span ≡ span list (top_of_page (page_levels len) 0)
 root_top image total tree list len stands less few =
     let long : length list ≤ 2 ^ (7 * page_levels (length list)) = height_covers (length list) stands.few in
     let longer : length list ≤ 2 ^ (7 * page_levels len) = omega (arith, less, stands.slots, height_covers len few) in
@@ -85,22 +95,32 @@ low_same a b less = elim (cases_lt a b) [
   | inr same ↦ low_fits a b same ∙ omega (arith, less, same)
 ]
 
-pub lists_of : (first end len : ℕ) (values list list' : List (Option ℤ)) → IsEdited first end len values list list' → AreLists first end values list list'
-lists_of first end len values list list' edited = record { old_values = edited.old_values; new_values = edited.new_values; changed = edited.slots_are }
+pub lists_of : (first end len : ℕ) (values list list' : List (Option ℤ)) → IsEdited first end len values list list'
+    → AreLists first end values list list'
+lists_of first end len values list list' edited = record {
+  old_values = edited.old_values;
+  new_values = edited.new_values;
+  changed = edited.slots_are;
+}
 
 -- where no slot is cleared, the changed list needs all pages
-either_new : (first end : ℕ) (values list list' : List (Option ℤ)) (level index : ℕ) → IsChanged first end values list list' → end ≤ first + length values
+either_new : (first end : ℕ) (values list list' : List (Option ℤ)) (level index : ℕ) → IsChanged first end values list list'
+    → end ≤ first + length values
     → count_where (is_stored_in_either list list') level index ≤ page_count list' level index
-either_new first end values list list' level index changed fills = count_le (is_stored_in_either list list') (is_stored list') level index (λ l q is. elim (truth (is_stored list l q)) [
-  | inl old ↦ stored_stays first end values list list' l q changed fills old
-  | inr none ↦ the_other (is_stored list l q) (is_stored list' l q) none is
-])
+either_new first end values list list' level index changed fills = count_le (is_stored_in_either list list') (is_stored list') level index
+    (λ l q is. elim (truth (is_stored list l q)) [
+      | inl old ↦ stored_stays first end values list list' l q changed fills old
+      | inr none ↦ the_other (is_stored list l q) (is_stored list' l q) none is
+    ])
   where
     the_other : (a b : Bool) → a ≡ false → a || b ≡ true → b ≡ true
     the_other a b none is = grind (arith, none, is)
 
-pub placed_for : (count : ℕ) (image : Image) (s : Superblock) (tree : Tree) (first end len more : ℕ) (values list list' : List (Option ℤ)) (others : List ℕ) → IsHeldTree count image s tree list others → IsEdited first end len values list list' → tree.slots ≤ len → len ≤ 2 ^ 35 → end ≤ first + length values
-    → more + length (tree_pages image (low (page_levels tree.slots) (page_levels len)) tree.root) ≡ page_count list' (page_levels len) 0 → in_use s + more ≤ s.total
+pub placed_for : (count : ℕ) (image : Image) (s : Superblock) (tree : Tree) (first end len more : ℕ) (values list list' : List (Option ℤ))
+    (others : List ℕ) → IsHeldTree count image s tree list others → IsEdited first end len values list list' → tree.slots ≤ len
+    → len ≤ 2 ^ 35 → end ≤ first + length values
+    → more + length (tree_pages image (low (page_levels tree.slots) (page_levels len)) tree.root) ≡ page_count list' (page_levels len) 0
+    → in_use s + more ≤ s.total
     → IsPlaced count image s list list' (page_levels tree.slots) (page_levels len) 0 tree.root tree.span others
 placed_for count image s tree first end len more values list list' others holds edited less few fills counted room =
     let height = page_levels tree.slots in
@@ -110,11 +130,22 @@ placed_for count image s tree first end len more values list list' others holds 
       rooted = root_for image s.total tree list len holds.is_tree less few;
       top_is = root_top image s.total tree list len holds.is_tree less few;
       freed = holds.freed;
-      stands = same_pages count image s (tree_pages image height tree.root ++ others) (tree_pages image (low height level) tree.root ++ others) holds.freed holds.stands (λ p. ap (λ l. times p (tree_pages image l tree.root ++ others)) (sym same));
-      roomy = omega (arith, either_new first end values list list' level 0 edited.slots_are fills, counted, room, stands_used count image s (tree_pages image height tree.root ++ others) holds.freed holds.stands, length-append (tree_pages image height tree.root) others, ap (λ l. length (tree_pages image l tree.root)) same);
+      stands = same_pages count image s (tree_pages image height tree.root ++ others)
+          (tree_pages image (low height level) tree.root ++ others) holds.freed holds.stands
+          (λ p. ap (λ l. times p (tree_pages image l tree.root ++ others)) (sym same));
+      roomy = omega (
+        arith,
+        either_new first end values list list' level 0 edited.slots_are fills,
+        counted,
+        room,
+        stands_used count image s (tree_pages image height tree.root ++ others) holds.freed holds.stands,
+        length-append (tree_pages image height tree.root) others,
+        ap (λ l. length (tree_pages image l tree.root)) same,
+      );
     }
 
-pub edited_for : (count : ℕ) (before image : Image) (s : Superblock) (first end len root : ℕ) (top : Option Span) (new : Tree) (values list list' : List (Option ℤ)) (others : List ℕ) → IsEdited first end len values list list' → len ≤ 2 ^ 35
+pub edited_for : (count : ℕ) (before image : Image) (s : Superblock) (first end len root : ℕ) (top : Option Span) (new : Tree)
+    (values list list' : List (Option ℤ)) (others : List ℕ) → IsEdited first end len values list list' → len ≤ 2 ^ 35
     → IsRepaired count before image s list' (page_levels len) 0 root top others → new.slots ≡ len → new.root ≡ root → new.span ≡ top
     → IsEditedTree count before image s new list' others
 edited_for count before image s first end len root top new values list list' others edited few repaired slots_is root_is span_is =
@@ -137,14 +168,26 @@ edited_for count before image s first end len root top new values list list' oth
       others_same = repaired.same;
     }
 
-pub full_for : (count : ℕ) (image : Image) (s : Superblock) (tree : Tree) (first end len more needed have : ℕ) (values list list' : List (Option ℤ)) (others : List ℕ) → IsHeldTree count image s tree list others → IsEdited first end len values list list' → tree.slots ≤ len
-    → more + length (tree_pages image (low (page_levels tree.slots) (page_levels len)) tree.root) ≡ page_count list' (page_levels len) 0 → needed ≡ in_use s + more → have ≡ s.total → have < needed
+pub full_for : (count : ℕ) (image : Image) (s : Superblock) (tree : Tree) (first end len more needed have : ℕ)
+    (values list list' : List (Option ℤ)) (others : List ℕ) → IsHeldTree count image s tree list others
+    → IsEdited first end len values list list' → tree.slots ≤ len
+    → more + length (tree_pages image (low (page_levels tree.slots) (page_levels len)) tree.root) ≡ page_count list' (page_levels len) 0
+    → needed ≡ in_use s + more → have ≡ s.total → have < needed
     → IsFullFor s.total (in_use s) list list' needed have
 full_for count image s tree first end len more needed have values list list' others holds edited less counted needs has full =
-    let same : low (page_levels tree.slots) (page_levels len) ≡ page_levels tree.slots = low_same (page_levels tree.slots) (page_levels len) (levels_more tree.slots len less) in
+    let same : low (page_levels tree.slots) (page_levels len) ≡ page_levels tree.slots = low_same (page_levels tree.slots) (page_levels len)
+    (levels_more tree.slots len less) in
     let old = pages_length image s.total list (page_levels (length list)) 0 tree.root holds.is_tree.pages in
     record {
-      needs = omega (arith, counted, needs, old, ap (λ n. length (tree_pages image (page_levels n) tree.root)) holds.is_tree.slots, ap (λ l. length (tree_pages image l tree.root)) same, ap (λ n. page_count list' (page_levels n) 0) edited.length_is);
+      needs = omega (
+        arith,
+        counted,
+        needs,
+        old,
+        ap (λ n. length (tree_pages image (page_levels n) tree.root)) holds.is_tree.slots,
+        ap (λ l. length (tree_pages image l tree.root)) same,
+        ap (λ n. page_count list' (page_levels n) 0) edited.length_is,
+      );
       has = has;
       more = omega (arith, has, full);
     }
@@ -157,13 +200,17 @@ one_value value zero v fits is = subst (λ w. IsValue w) (some_is value v is) fi
 one_value value (suc i) v fits is = absurd (grind (arith, is))
 
 -- a clear needs no page
-pub cleared_for : (count : ℕ) (image : Image) (s : Superblock) (tree : Tree) (first end : ℕ) (list list' : List (Option ℤ)) (others : List ℕ) → IsHeldTree count image s tree list others → IsEdited first end tree.slots [] list list' → tree.slots ≤ 2 ^ 35
+pub cleared_for : (count : ℕ) (image : Image) (s : Superblock) (tree : Tree) (first end : ℕ) (list list' : List (Option ℤ))
+    (others : List ℕ) → IsHeldTree count image s tree list others → IsEdited first end tree.slots [] list list' → tree.slots ≤ 2 ^ 35
     → ((l q : ℕ) → is_stored list' l q ≡ true → is_stored list l q ≡ true)
     → IsPlaced count image s list list' (page_levels tree.slots) (page_levels tree.slots) 0 tree.root tree.span others
 cleared_for count image s tree first end list list' others holds edited few fewer =
     let level = page_levels tree.slots in
     let same : low level level ≡ level = low_fits level level (omega arith) in
-    let pages : length (tree_pages image level tree.root) ≡ page_count list level 0 = ap (λ n. length (tree_pages image (page_levels n) tree.root)) holds.is_tree.slots ∙ pages_length image s.total list (page_levels (length list)) 0 tree.root holds.is_tree.pages ∙ ap (λ n. page_count list (page_levels n) 0) (sym holds.is_tree.slots) in
+    let pages : length (tree_pages image level tree.root) ≡ page_count list level
+    0 = ap (λ n. length (tree_pages image (page_levels n) tree.root)) holds.is_tree.slots
+    ∙ pages_length image s.total list (page_levels (length list)) 0 tree.root holds.is_tree.pages
+    ∙ ap (λ n. page_count list (page_levels n) 0) (sym holds.is_tree.slots) in
     let most = count_le (is_stored_in_either list list') (is_stored list) level 0 (λ l q is. elim (truth (is_stored list l q)) [
       | inl old ↦ old
       | inr none ↦ fewer l q (the_other (is_stored list l q) (is_stored list' l q) none is)
@@ -172,8 +219,17 @@ cleared_for count image s tree first end list list' others holds edited few fewe
       rooted = root_for image s.total tree list tree.slots holds.is_tree (omega arith) few;
       top_is = root_top image s.total tree list tree.slots holds.is_tree (omega arith) few;
       freed = holds.freed;
-      stands = same_pages count image s (tree_pages image level tree.root ++ others) (tree_pages image (low level level) tree.root ++ others) holds.freed holds.stands (λ p. ap (λ l. times p (tree_pages image l tree.root ++ others)) (sym same));
-      roomy = omega (arith, most, pages, stands_used count image s (tree_pages image level tree.root ++ others) holds.freed holds.stands, length-append (tree_pages image level tree.root) others, holds.stands.rules.fresh_high);
+      stands = same_pages count image s (tree_pages image level tree.root ++ others)
+          (tree_pages image (low level level) tree.root ++ others) holds.freed holds.stands
+          (λ p. ap (λ l. times p (tree_pages image l tree.root ++ others)) (sym same));
+      roomy = omega (
+        arith,
+        most,
+        pages,
+        stands_used count image s (tree_pages image level tree.root ++ others) holds.freed holds.stands,
+        length-append (tree_pages image level tree.root) others,
+        holds.stands.rules.fresh_high,
+      );
     }
   where
     the_other : (a b : Bool) → a ≡ false → a || b ≡ true → b ≡ true
@@ -185,12 +241,14 @@ disk_error old new list list' e is =
     subst P (sym is) tt
 
 -- a clear stores nothing
-pub cleared_fewer : (first end : ℕ) (list list' : List (Option ℤ)) → IsChanged first end [] list list' → (l q : ℕ) → is_stored list' l q ≡ true → is_stored list l q ≡ true
+pub cleared_fewer : (first end : ℕ) (list list' : List (Option ℤ)) → IsChanged first end [] list list' → (l q : ℕ)
+    → is_stored list' l q ≡ true → is_stored list l q ≡ true
 cleared_fewer first end list list' changed l q is = elim (truth (is_stored list l q)) [
   | inl there ↦ there
   | inr none ↦
       let a = first_slot (top_of_page l q) in
       let b = end_slot (top_of_page l q) in
-      let empty : span list' (top_of_page l q) ≡ None = still_none first end [] list list' a b changed (none_of (span list (top_of_page l q)) none) (λ new. absurd (grind (arith, new.is))) in
+      let empty : span list' (top_of_page l q) ≡ None = still_none first end [] list list' a b changed
+      (none_of (span list (top_of_page l q)) none) (λ new. absurd (grind (arith, new.is))) in
       absurd (grind (arith, is, none_is (span list' (top_of_page l q)) empty))
 ]

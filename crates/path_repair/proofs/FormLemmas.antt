@@ -1,5 +1,6 @@
 -- What a page has beside its nodes.
-use Rattle.std.proofs.Common.{◌≡◌, ◌≢◌, ℕ, ℤ, suc, ◌+◌, ◌-◌, ◌*◌, ◌/◌, ◌%◌, ◌<◌, ◌≤◌, ◌⊎◌, ◌==◌, true, false, List, slice_index, Option, sym, ap, subst, arith, inl, inr, ◌∙◌}
+use Rattle.std.proofs.Common.{◌≡◌, ◌≢◌, ℕ, ℤ, suc, ◌+◌, ◌-◌, ◌*◌, ◌/◌, ◌%◌, ◌<◌, ◌≤◌, ◌⊎◌, ◌==◌, true, false, List, slice_index, Option}
+use Rattle.std.proofs.Common.{sym, ap, subst, arith, inl, inr, ◌∙◌}
 use Rattle.std.specs.Prelude.{Result, Ok, Err, OnOk, OnErr, IfErr, IsOk}
 use Rattle.std.specs.Result.{is_err}
 use Rattle.std.specs.Int.{bit_at}
@@ -17,7 +18,8 @@ use Rattle.tree_walk.specs.Trees.{top_of_page}
 use Rattle.page_spans.specs.Lists.{AreLeavesOf}
 use Rattle.path_repair.specs.Forms.{IsForm, AreTops}
 
-pub kept_form : (level total : ℕ) (page bytes : List ℕ) → page ≡ bytes → IsBlock bytes → KeepsLayout bytes → level_at page ≡ level → ((c : ℕ) → c < 128 → child_at page c < total) → IsForm level total bytes
+pub kept_form : (level total : ℕ) (page bytes : List ℕ) → page ≡ bytes → IsBlock bytes → KeepsLayout bytes → level_at page ≡ level
+    → ((c : ℕ) → c < 128 → child_at page c < total) → IsForm level total bytes
 kept_form level total page bytes same whole keeps level_is below =
     let P : List ℕ → Type 0 = λ b. (c : ℕ) → c < 128 → child_at b c < total in
     record {
@@ -38,12 +40,15 @@ kept_form level total page bytes same whole keeps level_is below =
     the_odd : (b : ℕ) → 255 ≤ b → b < 256 → b ≡ 255
     the_odd b low high = omega (arith, low, high)
 
-flag_same : (old new : List ℕ) (b : ℕ) → b < 256 → ((k : ℕ) → k < 2072 → slice_index new k ≡ slice_index old k) → flag_at new b ≡ flag_at old b
+flag_same : (old new : List ℕ) (b : ℕ) → b < 256 → ((k : ℕ) → k < 2072 → slice_index new k ≡ slice_index old k)
+    → flag_at new b ≡ flag_at old b
 unfolding flag_at
 flag_same old new b small same = ap (λ byte. bit_at byte (b % 8) == 1) (same (8 + b / 8) (omega (arith, small)))
 
-pub set_form : (level total child page : ℕ) (old new : List ℕ) → IsBlock new → child_at new child ≡ page → ((c : ℕ) → c ≢ child → child_at new c ≡ child_at old c)
-    → ((k : ℕ) → (k < 2072 + 4 * child) ⊎ (2076 + 4 * child ≤ k) → slice_index new k ≡ slice_index old k) → page < total → child < 128 → IsForm level total old → IsForm level total new
+pub set_form : (level total child page : ℕ) (old new : List ℕ) → IsBlock new → child_at new child ≡ page
+    → ((c : ℕ) → c ≢ child → child_at new c ≡ child_at old c)
+    → ((k : ℕ) → (k < 2072 + 4 * child) ⊎ (2076 + 4 * child ≤ k) → slice_index new k ≡ slice_index old k) → page < total → child < 128
+    → IsForm level total old → IsForm level total new
 unfolding level_at
 set_form level total child page old new whole here others rest below within form = record {
   whole = whole;
@@ -61,25 +66,31 @@ set_form level total child page old new whole here others rest below within form
 }
 
 -- the leaves of a page, as its children's tops
-pub tops_of : (list : List (Option ℤ)) (level below index : ℕ) (spans : ℕ → Option Span) → level ≡ suc below → AreLeavesOf list level index spans → AreTops list below index (λ child. spans (127 + child))
+pub tops_of : (list : List (Option ℤ)) (level below index : ℕ) (spans : ℕ → Option Span) → level ≡ suc below
+    → AreLeavesOf list level index spans → AreTops list below index (λ child. spans (127 + child))
 tops_of list level below index spans is leaves child within =
     let depth : level - 1 ≡ below = omega (arith, is) in
     leaves child within ∙ ap (λ l. span list (top_of_page l (128 * index + child))) depth
 
-pub leaves_of : (list : List (Option ℤ)) (level below index : ℕ) (spans : ℕ → Option Span) → level ≡ suc below → AreTops list below index (λ child. spans (127 + child)) → AreLeavesOf list level index spans
+pub leaves_of : (list : List (Option ℤ)) (level below index : ℕ) (spans : ℕ → Option Span) → level ≡ suc below
+    → AreTops list below index (λ child. spans (127 + child)) → AreLeavesOf list level index spans
 leaves_of list level below index spans is tops child within =
     let depth : below ≡ level - 1 = omega (arith, is) in
     tops child within ∙ ap (λ l. span list (top_of_page l (128 * index + child))) depth
 
 -- a page of zeros becomes a page of a page level
-level_blank : (zeros level : List ℕ) → ((k : ℕ) → slice_index zeros k ≡ 0) → ((k : ℕ) → 2 ≤ k → slice_index level k ≡ slice_index zeros k) → IsBlank level
+level_blank : (zeros level : List ℕ) → ((k : ℕ) → slice_index zeros k ≡ 0) → ((k : ℕ) → 2 ≤ k → slice_index level k ≡ slice_index zeros k)
+    → IsBlank level
 level_blank zeros level none rest k low high = rest k (omega (arith, low)) ∙ none k
 
-pub start_child : (zeros level : List ℕ) → ((k : ℕ) → slice_index zeros k ≡ 0) → ((k : ℕ) → 2 ≤ k → slice_index level k ≡ slice_index zeros k) → (c : ℕ) → c < 128 → child_at level c ≡ 0
+pub start_child : (zeros level : List ℕ) → ((k : ℕ) → slice_index zeros k ≡ 0)
+    → ((k : ℕ) → 2 ≤ k → slice_index level k ≡ slice_index zeros k) → (c : ℕ) → c < 128 → child_at level c ≡ 0
 start_child zeros level none rest c within = child_blank level (level_blank zeros level none rest) c within
 
-pub start_form : (level total page : ℕ) (zeros bytes new : List ℕ) → ((k : ℕ) → slice_index zeros k ≡ 0) → IsBlock bytes → IsKind bytes → level_at bytes ≡ level → ((k : ℕ) → 2 ≤ k → slice_index bytes k ≡ slice_index zeros k)
-    → IsBlock new → child_at new 0 ≡ page → ((c : ℕ) → c ≢ 0 → child_at new c ≡ child_at bytes c) → ((k : ℕ) → (k < 2072 + 4 * 0) ⊎ (2076 + 4 * 0 ≤ k) → slice_index new k ≡ slice_index bytes k) → page < total
+pub start_form : (level total page : ℕ) (zeros bytes new : List ℕ) → ((k : ℕ) → slice_index zeros k ≡ 0) → IsBlock bytes → IsKind bytes
+    → level_at bytes ≡ level → ((k : ℕ) → 2 ≤ k → slice_index bytes k ≡ slice_index zeros k)
+    → IsBlock new → child_at new 0 ≡ page → ((c : ℕ) → c ≢ 0 → child_at new c ≡ child_at bytes c)
+    → ((k : ℕ) → (k < 2072 + 4 * 0) ⊎ (2076 + 4 * 0 ≤ k) → slice_index new k ≡ slice_index bytes k) → page < total
     → IsForm level total new
 start_form level total page zeros bytes new none whole kind level_is rest whole' here others rest' below =
     set_form level total 0 page bytes new whole' here others rest' below (omega arith) (record {

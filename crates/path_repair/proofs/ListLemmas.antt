@@ -1,5 +1,6 @@
 -- Lists that hold the same in a range.
-use Rattle.std.proofs.Common.{◌≡◌, ℕ, ℤ, IsSome, zero, suc, ◌+◌, ◌-◌, ◌*◌, ◌/◌, ◌^◌, ◌<◌, ◌≤◌, List, length, slice_get, Option, None, Some, refl, sym, ap, subst, arith, inl, inr, ◌∙◌}
+use Rattle.std.proofs.Common.{◌≡◌, ℕ, ℤ, IsSome, zero, suc, ◌+◌, ◌-◌, ◌*◌, ◌/◌, ◌^◌, ◌<◌, ◌≤◌, List, length, slice_get, Option, None, Some}
+use Rattle.std.proofs.Common.{refl, sym, ap, subst, arith, inl, inr, ◌∙◌}
 use Rattle.std.proofs.lemmas.Bool.{cases_lt}
 use Rattle.std.proofs.lemmas.Nat.{pow-add}
 use Rattle.std.proofs.lemmas.Option.{slice_get_past, slice_get_within}
@@ -33,15 +34,19 @@ slot_span list i = elim (cases_lt i (length list)) [
       ∙ ap (λ x. span_of_slot (value_of x)) (sym none)
 ]
 
-pub span_same : (n : ℕ) (list list' : List (Option ℤ)) (a : ℕ) → AreSame list list' a (a + n) → span_over list' a (a + n) ≡ span_over list a (a + n)
+pub span_same : (n : ℕ) (list list' : List (Option ℤ)) (a : ℕ) → AreSame list list' a (a + n)
+    → span_over list' a (a + n) ≡ span_over list a (a + n)
 span_same zero list list' a same = span_over-none list' a (a + 0) (omega arith) ∙ sym (span_over-none list a (a + 0) (omega arith))
 span_same (suc n) list list' a same =
-    let P : List (Option ℤ) → ℕ → Type 0 = λ one b. span_over one a b ≡ hull (span_over one a (a + n)) (span_over one (a + n) (a + n + 1)) in
+    let P : List (Option ℤ) → ℕ → Type 0 = λ one b. span_over one a b ≡ hull (span_over one a (a + n))
+    (span_over one (a + n) (a + n + 1)) in
     let next : a + n + 1 ≡ a + suc n = omega arith in
     let both : (one : List (Option ℤ)) → span_over one a (a + suc n) ≡ hull (span_over one a (a + n)) (span_of_slot (slot_at one (a + n)))
-    = λ one. subst (P one) next (span_over-both one a (a + n) (a + n + 1) (omega arith) (omega arith)) ∙ ap (λ s. hull (span_over one a (a + n)) s) (slot_span one (a + n)) in
+    = λ one. subst (P one) next (span_over-both one a (a + n) (a + n + 1) (omega arith) (omega arith))
+    ∙ ap (λ s. hull (span_over one a (a + n)) s) (slot_span one (a + n)) in
     both list'
-    ∙ ap (λ s. hull s (span_of_slot (slot_at list' (a + n)))) (span_same n list list' a (same_within list list' a (a + suc n) a (a + n) same (omega arith) (omega arith)))
+    ∙ ap (λ s. hull s (span_of_slot (slot_at list' (a + n))))
+    (span_same n list list' a (same_within list list' a (a + suc n) a (a + n) same (omega arith) (omega arith)))
     ∙ ap (λ x. hull (span_over list a (a + n)) (span_of_slot x)) (same (a + n) (omega arith) (omega arith))
     ∙ sym (both list)
 
@@ -54,10 +59,15 @@ over_same list list' a b same = elim (cases_lt a b) [
   | inr none ↦ span_over-none list' a b none ∙ sym (span_over-none list a b none)
 ]
 
-pub coef_same : (list list' : List (Option ℤ)) (k : Key) → 1 ≤ k.level → AreSame list list' (first_slot k) (end_slot k) → coef list' k ≡ coef list k
+pub coef_same : (list list' : List (Option ℤ)) (k : Key) → 1 ≤ k.level → AreSame list list' (first_slot k) (end_slot k)
+    → coef list' k ≡ coef list k
 coef_same list list' k low same =
-    let left = over_same list list' (first_slot (left_of k)) (end_slot (left_of k)) (same_within list list' (first_slot k) (end_slot k) (first_slot (left_of k)) (end_slot (left_of k)) same (omega (arith, left_first k low)) (omega (arith, right_end k low, right_some k low))) in
-    let right = over_same list list' (first_slot (right_of k)) (end_slot (right_of k)) (same_within list list' (first_slot k) (end_slot k) (first_slot (right_of k)) (end_slot (right_of k)) same (omega (arith, left_some k low)) (omega (arith, right_end k low))) in
+    let left = over_same list list' (first_slot (left_of k)) (end_slot (left_of k))
+    (same_within list list' (first_slot k) (end_slot k) (first_slot (left_of k)) (end_slot (left_of k)) same
+    (omega (arith, left_first k low)) (omega (arith, right_end k low, right_some k low))) in
+    let right = over_same list list' (first_slot (right_of k)) (end_slot (right_of k))
+    (same_within list list' (first_slot k) (end_slot k) (first_slot (right_of k)) (end_slot (right_of k)) same
+    (omega (arith, left_some k low)) (omega (arith, right_end k low))) in
     ap (λ s. coef_of s (span list' (right_of k))) left ∙ ap (λ s. coef_of (span list (left_of k)) s) right
 
 -- a page level has seven levels
@@ -77,10 +87,12 @@ child_to q c p w e within =
     omega (arith, ap (λ n. (q + 1) * n) e, ap (λ n. n * p) sum)
 
 -- a child's range is within the page's
-pub child_first : (level index child : ℕ) → first_slot (top_of_page (suc level) index) ≤ first_slot (top_of_page level (128 * index + child))
+pub child_first : (level index child : ℕ) → first_slot (top_of_page (suc level) index) ≤ first_slot
+    (top_of_page level (128 * index + child))
 child_first level index child = child_from index child (2 ^ (7 * level)) (2 ^ (7 * suc level)) (width level)
 
-pub child_end : (level index child : ℕ) → child < 128 → end_slot (top_of_page level (128 * index + child)) ≤ end_slot (top_of_page (suc level) index)
+pub child_end : (level index child : ℕ) → child < 128
+    → end_slot (top_of_page level (128 * index + child)) ≤ end_slot (top_of_page (suc level) index)
 child_end level index child within = child_to index child (2 ^ (7 * level)) (2 ^ (7 * suc level)) (width level) within
 
 -- the range of a node's key is within the page's
@@ -98,23 +110,28 @@ key_within k level index level_is index_is =
       holds = ap (λ d. k.index / 2 ^ d) depth ∙ index_is;
     }
 
-pub key_first : (k : Key) (level index : ℕ) → page_level k.level ≡ level → page_index k ≡ index → first_slot (top_of_page level index) ≤ first_slot k
+pub key_first : (k : Key) (level index : ℕ) → page_level k.level ≡ level → page_index k ≡ index
+    → first_slot (top_of_page level index) ≤ first_slot k
 key_first k level index level_is index_is = first_above (top_of_page level index) k (key_within k level index level_is index_is)
 
-pub key_end : (k : Key) (level index : ℕ) → page_level k.level ≡ level → page_index k ≡ index → end_slot k ≤ end_slot (top_of_page level index)
+pub key_end : (k : Key) (level index : ℕ) → page_level k.level ≡ level → page_index k ≡ index
+    → end_slot k ≤ end_slot (top_of_page level index)
 key_end k level index level_is index_is = end_above (top_of_page level index) k (key_within k level index level_is index_is)
 
 -- a tree stands for a list that holds the same in its range
-pub nodes_same : (list list' : List (Option ℤ)) (level index : ℕ) (page : List ℕ) → AreSame list list' (first_slot (top_of_page level index)) (end_slot (top_of_page level index))
+pub nodes_same : (list list' : List (Option ℤ)) (level index : ℕ) (page : List ℕ)
+    → AreSame list list' (first_slot (top_of_page level index)) (end_slot (top_of_page level index))
     → HoldsNodes list level index page → HoldsNodes list' level index page
 nodes_same list list' level index page same nodes = record {
   keeps = nodes.keeps;
   level_is = nodes.level_is;
   nodes = λ k some at here. nodes.nodes k some at here
-      ∙ sym (coef_same list list' k some (same_within list list' (first_slot (top_of_page level index)) (end_slot (top_of_page level index)) (first_slot k) (end_slot k) same (key_first k level index at here) (key_end k level index at here)));
+      ∙ sym (coef_same list list' k some (same_within list list' (first_slot (top_of_page level index)) (end_slot (top_of_page level index))
+      (first_slot k) (end_slot k) same (key_first k level index at here) (key_end k level index at here)));
 }
 
-pub tree_same : (image : Image) (total : ℕ) (list list' : List (Option ℤ)) (level index page : ℕ) → AreSame list list' (first_slot (top_of_page level index)) (end_slot (top_of_page level index))
+pub tree_same : (image : Image) (total : ℕ) (list list' : List (Option ℤ)) (level index page : ℕ)
+    → AreSame list list' (first_slot (top_of_page level index)) (end_slot (top_of_page level index))
     → IsTree image total list level index page → IsTree image total list' level index page
 tree_same image total list list' zero index page same tree = tree
 tree_same image total list list' (suc level) index page same (inl (none, empty)) =
@@ -124,10 +141,13 @@ tree_same image total list list' (suc level) index page same (inr (some, low, st
     inr (
       some,
       low,
-      subst S (sym (over_same list list' (first_slot (top_of_page (suc level) index)) (end_slot (top_of_page (suc level) index)) same)) stored,
+      subst S (sym (over_same list list' (first_slot (top_of_page (suc level) index)) (end_slot (top_of_page (suc level) index)) same))
+          stored,
       nodes_same list list' (suc level) index (image page) same nodes,
       λ child within. tree_same image total list list' level (128 * index + child) (child_at (image page) child)
-          (same_within list list' (first_slot (top_of_page (suc level) index)) (end_slot (top_of_page (suc level) index)) (first_slot (top_of_page level (128 * index + child))) (end_slot (top_of_page level (128 * index + child))) same (child_first level index child) (child_end level index child within)) (children child within),
+          (same_within list list' (first_slot (top_of_page (suc level) index)) (end_slot (top_of_page (suc level) index))
+          (first_slot (top_of_page level (128 * index + child))) (end_slot (top_of_page level (128 * index + child))) same
+          (child_first level index child) (child_end level index child within)) (children child within),
     )
 
 -- nothing is stored in a part of a range where nothing is

@@ -16,10 +16,12 @@ use Rattle.path_repair.specs.Costs.{touch, is_touched, is_new_root}
 use Rattle.path_repair.specs.Standing.{AreTold, ReadsMost, Moved}
 use Rattle.path_repair.proofs.ListLemmas.{child_end}
 
-reads_then : (a b : ℕ) (told told' told'' : Type 0) (old mid new : View) → ReadsMost a told told' old mid → ReadsMost b told' told'' mid new → ReadsMost (a + b) told told'' old new
+reads_then : (a b : ℕ) (told told' told'' : Type 0) (old mid new : View) → ReadsMost a told told' old mid → ReadsMost b told' told'' mid new
+    → ReadsMost (a + b) told told'' old new
 reads_then a b told told' told'' old mid new first second = record {
   time = time_then old mid new (Now old) first.time
-      (passes_weaker mid new (Now mid) (Now old) (Quiet mid) (Quiet mid) (now_back old mid (Quiet old) first.time) (λ count quiet. quiet) second.time);
+      (passes_weaker mid new (Now mid) (Now old) (Quiet mid) (Quiet mid) (now_back old mid (Quiet old) first.time)
+      (λ count quiet. quiet) second.time);
   told = λ t. second.told (first.told t);
   was_told = λ t. first.was_told (second.was_told t);
   image = λ t. second.image (first.told t) ∙ first.image t;
@@ -62,7 +64,8 @@ reads_more a b told told' old new less reads = record {
   writes = reads.writes;
 }
 
-pub moved_then : (a b p q : ℕ) (told told' told'' : Type 0) (old mid new under under' under'' : View) (s s' s'' : Superblock) (t t' t'' : Txn) → Moved a p told told' old mid under under' s s' t t' → Moved b q told' told'' mid new under' under'' s' s'' t' t''
+pub moved_then : (a b p q : ℕ) (told told' told'' : Type 0) (old mid new under under' under'' : View) (s s' s'' : Superblock)
+    (t t' t'' : Txn) → Moved a p told told' old mid under under' s s' t t' → Moved b q told' told'' mid new under' under'' s' s'' t' t''
     → Moved (a + b) (p + q) told told'' old new under under'' s s'' t t''
 moved_then a b p q told told' told'' old mid new under under' under'' s s' s'' t t' t'' first second = record {
   reads = reads_then a b told told' told'' old mid new first.reads second.reads;
@@ -77,9 +80,17 @@ stays_none : (superblock : Superblock) (at : View) → StaysOn superblock superb
 stays_none superblock at = record { superblock = refl; goes_on = goes_none at }
 
 pub moved_none : (told : Type 0) (at under : View) (s : Superblock) (t : Txn) → Moved 0 0 told told at at under under s s t t
-moved_none told at under s t = record { reads = reads_none told at; over = stays_none s under; total = refl; series = refl; fresh = omega arith; held = omega arith }
+moved_none told at under s t = record {
+  reads = reads_none told at;
+  over = stays_none s under;
+  total = refl;
+  series = refl;
+  fresh = omega arith;
+  held = omega arith;
+}
 
-pub moved_more : (a b p q : ℕ) (told told' : Type 0) (old new under under' : View) (s s' : Superblock) (t t' : Txn) → a ≤ b → p ≤ q → Moved a p told told' old new under under' s s' t t' → Moved b q told told' old new under under' s s' t t'
+pub moved_more : (a b p q : ℕ) (told told' : Type 0) (old new under under' : View) (s s' : Superblock) (t t' : Txn) → a ≤ b → p ≤ q
+    → Moved a p told told' old new under under' s s' t t' → Moved b q told told' old new under under' s s' t t'
 moved_more a b p q told told' old new under under' s s' t t' less fewer moved = record {
   reads = reads_more a b told told' old new less moved.reads;
   over = moved.over;
@@ -89,23 +100,34 @@ moved_more a b p q told told' old new under under' s s' t t' less fewer moved = 
   held = omega (arith, moved.held, fewer);
 }
 
-pub told_on : (a : ℕ) (told told' : Type 0) (old new : View) (base : Image) → ReadsMost a told told' old new → AreTold told old base → AreTold told' new base
+pub told_on : (a : ℕ) (told told' : Type 0) (old new : View) (base : Image) → ReadsMost a told told' old new → AreTold told old base
+    → AreTold told' new base
 told_on a told told' old new base reads at = record { are_told = reads.told at.are_told; are = reads.image at.are_told ∙ at.are }
 
 pub touch_suc : (first end height level index : ℕ) → (is_touched first end (suc level) index || is_new_root height (suc level) index) ≡ true
     → touch first end height (suc level) index ≡ suc (sum_below (λ child. touch first end height level (128 * index + child)) 128)
 unfolding touch
-touch_suc first end height level index passed = ap (λ b. cond b (suc (sum_below (λ child. touch first end height level (128 * index + child)) 128)) 0) passed
+touch_suc first end height level index passed = ap (λ b. cond b
+    (suc (sum_below (λ child. touch first end height level (128 * index + child)) 128)) 0) passed
 
 -- a page that is passed, and its children
-pub touch_level : (first end height level below index : ℕ) → below + 1 ≡ level → (is_touched first end level index || is_new_root height level index) ≡ true
+pub touch_level : (first end height level below index : ℕ) → below + 1 ≡ level
+    → (is_touched first end level index || is_new_root height level index) ≡ true
     → touch first end height level index ≡ 1 + sum_below (λ child. touch first end height below (128 * index + child)) 128
 touch_level first end height level below index is passed =
     let next : suc below ≡ level = omega (arith, is) in
-    let P : ℕ → Type 0 = λ l. (is_touched first end l index || is_new_root height l index) ≡ true → touch first end height l index ≡ 1 + sum_below (λ child. touch first end height below (128 * index + child)) 128 in
+    let P : ℕ → Type 0 = λ l. (is_touched first end l index || is_new_root height l index) ≡ true
+    → touch first end height l index ≡ 1 + sum_below (λ child. touch first end height below (128 * index + child)) 128 in
     subst P next (λ passed. omega (arith, touch_suc first end height below index passed)) passed
 
-pub child_small : (level below index child q most : ℕ) → below + 1 ≡ level → q ≡ 128 * index + child → child < 128 → end_slot (top_of_page level index) ≤ most → end_slot (top_of_page below q) ≤ most
+pub child_small : (level below index child q most : ℕ) → below + 1 ≡ level → q ≡ 128 * index + child → child < 128
+    → end_slot (top_of_page level index) ≤ most → end_slot (top_of_page below q) ≤ most
 child_small level below index child q most is at within small =
     let next : level ≡ suc below = omega (arith, is) in
-    omega (arith, small, ap (λ l. end_slot (top_of_page l index)) next, child_end below index child within, ap (λ p. end_slot (top_of_page below p)) at)
+    omega (
+      arith,
+      small,
+      ap (λ l. end_slot (top_of_page l index)) next,
+      child_end below index child within,
+      ap (λ p. end_slot (top_of_page below p)) at,
+    )

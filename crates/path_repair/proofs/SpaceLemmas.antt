@@ -25,7 +25,8 @@ reads_one told told' old new reads = record {
 }
 
 -- a block is read, and the transaction is the same
-pub moved_read : (told told' : Type 0) (old new under under' : View) (s s' : Superblock) (t t' : Txn) → Reads told told' old new → GoesOn under under' → s' ≡ s → t' ≡ t → Moved 1 0 told told' old new under under' s s' t t'
+pub moved_read : (told told' : Type 0) (old new under under' : View) (s s' : Superblock) (t t' : Txn) → Reads told told' old new
+    → GoesOn under under' → s' ≡ s → t' ≡ t → Moved 1 0 told told' old new under under' s s' t t'
 moved_read told told' old new under under' s s' t t' reads goes_on numbers same = record {
   reads = reads_one told told' old new reads;
   over = record { superblock = numbers; goes_on = goes_on };
@@ -36,7 +37,8 @@ moved_read told told' old new under under' s s' t t' reads goes_on numbers same 
 }
 
 -- a page is taken
-pub moved_take : (told told' : Type 0) (old new under under' : View) (s s' : Superblock) (t t' : Txn) (image : Image) (p : ℕ) → Reads told told' old new → GoesOn under under' → s' ≡ s → OnlyFirst t t' → Takes told image t.superblock t'.superblock p
+pub moved_take : (told told' : Type 0) (old new under under' : View) (s s' : Superblock) (t t' : Txn) (image : Image) (p : ℕ)
+    → Reads told told' old new → GoesOn under under' → s' ≡ s → OnlyFirst t t' → Takes told image t.superblock t'.superblock p
     → Moved 1 0 told told' old new under under' s s' t t'
 moved_take told told' old new under under' s s' t t' image p reads goes_on numbers first (inl chain) = record {
   reads = reads_one told told' old new reads;
@@ -56,7 +58,8 @@ moved_take told told' old new under under' s s' t t' image p reads goes_on numbe
 }
 
 -- a page is put into a transaction, or freed there
-pub moved_put : (told : Type 0) (at under : View) (s : Superblock) (t t' : Txn) → t'.superblock.total ≡ t.superblock.total → t'.superblock.series ≡ t.superblock.series → t.superblock.fresh ≤ t'.superblock.fresh → length (held t') ≤ length (held t) + 1
+pub moved_put : (told : Type 0) (at under : View) (s : Superblock) (t t' : Txn) → t'.superblock.total ≡ t.superblock.total
+    → t'.superblock.series ≡ t.superblock.series → t.superblock.fresh ≤ t'.superblock.fresh → length (held t') ≤ length (held t) + 1
     → Moved 0 1 told told at at under under s s t t'
 moved_put told at under s t t' total series fresh held =
     let none = moved_none told at under s t in

@@ -41,7 +41,11 @@ pub sum_swap : (f g : ℕ → ℕ) (i n : ℕ) → i < n → ((c : ℕ) → c < 
 unfolding sum_below
 sum_swap f g i zero low same = absurd (omega (arith, low))
 sum_swap f g i (suc n) low same = elim (cases_lt i n) [
-  | inl below ↦ omega (arith, sum_swap f g i n below (λ c within other. same c (omega (arith, within)) other), same n (omega arith) (λ is. omega (arith, is, below)))
+  | inl below ↦ omega (
+    arith,
+    sum_swap f g i n below (λ c within other. same c (omega (arith, within)) other),
+    same n (omega arith) (λ is. omega (arith, is, below)),
+  )
   | inr past ↦
       let at : n ≡ i = omega (arith, low, past) in
       let rest = sum_same f g n (λ c within. sym (same c (omega (arith, within)) (λ is. omega (arith, is, within, at)))) in
@@ -69,7 +73,8 @@ pub times_in_join : (p : ℕ) (f : ℕ → List ℕ) (i n : ℕ) → i < n → t
 times_in_join p f i n low = omega (arith, times_join p f n, sum_upto (λ c. times p (f c)) i n low)
 
 -- two lists that differ at i alone
-pub times_swap : (p : ℕ) (f g : ℕ → List ℕ) (i n : ℕ) → i < n → ((c : ℕ) → c < n → c ≢ i → g c ≡ f c) → times p (join_below f n) + times p (g i) ≡ times p (join_below g n) + times p (f i)
+pub times_swap : (p : ℕ) (f g : ℕ → List ℕ) (i n : ℕ) → i < n → ((c : ℕ) → c < n → c ≢ i → g c ≡ f c)
+    → times p (join_below f n) + times p (g i) ≡ times p (join_below g n) + times p (f i)
 times_swap p f g i n low same =
     let swap = sum_swap (λ c. times p (f c)) (λ c. times p (g c)) i n low (λ c within other. ap (λ l. times p l) (same c within other)) in
     omega (arith, swap, times_join p f n, times_join p g n)

@@ -1,5 +1,6 @@
 -- The pages of a tree, and trees whose pages stay.
-use Rattle.std.proofs.Common.{◌≡◌, ◌≢◌, ℕ, ℤ, zero, suc, ◌+◌, ◌*◌, ◌<◌, ◌≤◌, List, [], ◌∷◌, Option, cond, refl, sym, ap, subst, arith, inl, inr, ◌∙◌}
+use Rattle.std.proofs.Common.{◌≡◌, ◌≢◌, ℕ, ℤ, zero, suc, ◌+◌, ◌*◌, ◌<◌, ◌≤◌, List, [], ◌∷◌, Option, cond, refl, sym, ap, subst, arith, inl}
+use Rattle.std.proofs.Common.{inr, ◌∙◌}
 use Rattle.std.proofs.lemmas.Bool.{ne_eqb, eq-eqb, le-leb, lt-leb}
 use Rattle.std.proofs.lemmas.Bool.Decides.{eqb_tells}
 use Rattle.block_disk.specs.View.{Image}
@@ -30,20 +31,32 @@ pub no_slots : (image : Image) (page : ℕ) → tree_pages image 0 page ≡ []
 unfolding tree_pages
 no_slots image page = refl
 
-pub own_pages : (image : Image) (level page : ℕ) → page ≢ 0 → tree_pages image (suc level) page ≡ page ∷ join_below (below image level (image page)) 128
+pub own_pages : (image : Image) (level page : ℕ) → page ≢ 0
+    → tree_pages image (suc level) page ≡ page ∷ join_below (below image level (image page)) 128
 unfolding tree_pages
 own_pages image level page some = ap (λ b. cond b [] (page ∷ join_below (below image level (image page)) 128)) (ne_eqb page 0 some)
 
 pub own_page : (image : Image) (level page : ℕ) → page ≢ 0 → 0 < times page (tree_pages image (suc level) page)
 own_page image level page some =
-    omega (arith, ap (λ l. times page l) (own_pages image level page some), times_here page page (join_below (below image level (image page)) 128) refl)
+    omega (
+      arith,
+      ap (λ l. times page l) (own_pages image level page some),
+      times_here page page (join_below (below image level (image page)) 128) refl,
+    )
 
-pub child_in : (image : Image) (level page child p : ℕ) → page ≢ 0 → child < 128 → times p (below image level (image page) child) ≤ times p (tree_pages image (suc level) page)
+pub child_in : (image : Image) (level page child p : ℕ) → page ≢ 0 → child < 128
+    → times p (below image level (image page) child) ≤ times p (tree_pages image (suc level) page)
 child_in image level page child p some within =
-    omega (arith, ap (λ l. times p l) (own_pages image level page some), times_more p page (join_below (below image level (image page)) 128), times_in_join p (below image level (image page)) child 128 within)
+    omega (
+      arith,
+      ap (λ l. times p l) (own_pages image level page some),
+      times_more p page (join_below (below image level (image page)) 128),
+      times_in_join p (below image level (image page)) child 128 within,
+    )
 
 -- a tree has the same pages where its pages stay
-pub pages_frame : (old new : Image) (level page : ℕ) → ((p : ℕ) → 0 < times p (tree_pages old level page) → new p ≡ old p) → tree_pages new level page ≡ tree_pages old level page
+pub pages_frame : (old new : Image) (level page : ℕ) → ((p : ℕ) → 0 < times p (tree_pages old level page) → new p ≡ old p)
+    → tree_pages new level page ≡ tree_pages old level page
 pages_frame old new zero page same = unfold tree_pages in refl
 pages_frame old new (suc level) page same = elim (eqb_tells page 0) [
   | inl is ↦ no_pages new (suc level) page is.1 ∙ sym (no_pages old (suc level) page is.1)
@@ -52,7 +65,8 @@ pages_frame old new (suc level) page same = elim (eqb_tells page 0) [
       own_pages new level page is.1
       ∙ ap (λ l. page ∷ l) (join_same (below new level (new page)) (below old level (old page)) 128 (λ child within.
       ap (λ bytes. below new level bytes child) here
-      ∙ pages_frame old new level (child_at (old page) child) (λ p there. same p (omega (arith, there, child_in old level page child p is.1 within)))))
+      ∙ pages_frame old new level (child_at (old page) child)
+      (λ p there. same p (omega (arith, there, child_in old level page child p is.1 within)))))
       ∙ sym (own_pages old level page is.1)
 ]
 

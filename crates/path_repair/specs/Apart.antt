@@ -1,5 +1,6 @@
 -- Which page is damaged as the pages are before a change, where none is used twice.
-use Rattle.std.specs.Prelude.{ℕ, zero, suc, ◌≡◌, ◌≢◌, ◌+◌, ◌*◌, ◌^◌, ◌<◌, ◌≤◌, ◌⊎◌, ◌==◌, Bool, false, nat_lt, if◌then◌else◌, List, [], ◌∷◌, Option}
+use Rattle.std.specs.Prelude.{ℕ, zero, suc, ◌≡◌, ◌≢◌, ◌+◌, ◌*◌, ◌^◌, ◌<◌, ◌≤◌, ◌⊎◌, ◌==◌, Bool, false, nat_lt, if◌then◌else◌, List, [], ◌∷◌}
+use Rattle.std.specs.Prelude.{Option}
 use Rattle.block_disk.specs.View.{Image}
 use Rattle.om3_coeff.specs.declared.span.Span.{Span}
 use Rattle.node_page.specs.Fields.{level_at, child_at}
@@ -21,7 +22,8 @@ HasWrongPage image total zero page at = ⊥
 HasWrongPage image total (suc level) page at =
     (page ≢ 0)
     × (((at ≡ page) × IsUnfit total (suc level) (image page))
-    ⊎ (KeepsLayout (image page) × (level_at (image page) ≡ suc level) × (child : ℕ) × (child < 128) × HasWrongPage image total level (child_at (image page) child) at))
+    ⊎ (KeepsLayout (image page) × (level_at (image page) ≡ suc level) × (child : ℕ) × (child < 128)
+    × HasWrongPage image total level (child_at (image page) child) at))
 
 -- of that tree, whose top has this span, this page has a coefficient that doesn't split the span that those above give
 abbrev pub HasWrongNode : Image → ℕ → ℕ → Option Span → ℕ → Type 0
@@ -34,7 +36,8 @@ HasWrongNode image (suc level) page top at =
 
 -- the page is one of the tree below this page, and is so; or it is one of the chain, and breaks its layout
 abbrev pub IsDamagedPage : Image → Superblock → ℕ → ℕ → ℕ → Option Span → ℕ → Type 0
-IsDamagedPage image s total level page top at = HasWrongPage image total level page at ⊎ (HasWrongNode image level page top at ⊎ HasBadLink image s s.chain at)
+IsDamagedPage image s total level page top at = HasWrongPage image total level page at
+    ⊎ (HasWrongNode image level page top at ⊎ HasBadLink image s s.chain at)
 
 -- the page that an error names is damaged
 abbrev pub NamesDamaged : Image → Superblock → ℕ → ℕ → ℕ → Option Span → RepairError → Type 0
@@ -51,12 +54,14 @@ TellsUnfit image total fits = (level page : ℕ) → fits level page ≡ false �
 unfoldable pub reached_pages : (ℕ → ℕ → Bool) → Image → ℕ → ℕ → List ℕ
 reached_pages fits image zero page = []
 reached_pages fits image (suc level) page =
-    if page == 0 then [] else page ∷ (if fits (suc level) page then join_below (λ child. reached_pages fits image level (child_at (image page) child)) 128 else [])
+    if page == 0 then [] else page ∷ (if fits (suc level) page then join_below
+    (λ child. reached_pages fits image level (child_at (image page) child)) 128 else [])
 
 -- the pages of the chain with these numbers, up to the first that breaks its layout
 abbrev pub AreChained : Image → Superblock → List ℕ → Type 0
 AreChained image s [] = s.chain ≡ 0
-AreChained image s (p ∷ ps) = (s.chain ≢ 0) × (p ≡ s.head) × ((next : ℕ) → Links s next (image s.head) → AreChained image (without_head s next) ps)
+AreChained image s (p ∷ ps) = (s.chain ≢ 0) × (p ≡ s.head)
+    × ((next : ℕ) → Links s next (image s.head) → AreChained image (without_head s next) ps)
 
 -- These pages and those of the chain were in use before, each once.
 pub record AreApart (image : Image) (s : Superblock) (pages : List ℕ) : Type 0 where
@@ -90,12 +95,14 @@ and_page page mine p = times p (page ∷ []) + mine p
 
 -- they stand apart as a transaction would leave the pages, with this page among those in hand
 abbrev pub StandsWith : Txn → Image → (ℕ → ℕ → Bool) → Image → Superblock → (ℕ → ℕ) → (ℕ → ℕ) → ℕ → Type 0
-StandsWith txn base fits stored from mine kept page = StandsApart fits stored (left_by txn base) from (told_by txn) (and_page page mine) kept
+StandsWith txn base fits stored from mine kept page = StandsApart fits stored (left_by txn base) from (told_by txn)
+    (and_page page mine) kept
 
 -- a page in hand is left, and the others still stand apart
 abbrev pub LeavesApart : ℕ → Txn → Txn → Type 0
 LeavesApart page old new =
-    (fits : ℕ → ℕ → Bool) (base stored : Image) (from : Superblock) (mine kept : ℕ → ℕ) → StandsWith old base fits stored from mine kept page
+    (fits : ℕ → ℕ → Bool) (base stored : Image) (from : Superblock) (mine kept : ℕ → ℕ)
+    → StandsWith old base fits stored from mine kept page
     → StandsApart fits stored (left_by new base) from (told_by new) mine kept
 
 -- the pages of the tree at a place, and those left alone
@@ -105,7 +112,8 @@ and_tree fits stored height level index page kept p = times p (reached_pages fit
 -- the pages of the children of a page from this one on, and those left alone
 abbrev pub and_children : (ℕ → ℕ → Bool) → Image → ℕ → ℕ → ℕ → List ℕ → ℕ → (ℕ → ℕ) → ℕ → ℕ
 and_children fits stored height below index bytes i kept p =
-    sum_below (λ child. if nat_lt child i then 0 else times p (reached_pages fits stored (root_level height below (128 * index + child)) (child_at bytes child))) 128 + kept p
+    sum_below (λ child. if nat_lt child i then 0 else times p
+    (reached_pages fits stored (root_level height below (128 * index + child)) (child_at bytes child))) 128 + kept p
 
 -- the page that couldn't be taken is one of the chain that breaks its layout
 abbrev pub NamesLink : Image → Superblock → RepairError → Type 0

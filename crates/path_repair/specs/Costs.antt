@@ -7,7 +7,8 @@ use Rattle.path_repair.specs.Changes.{HasNew}
 
 -- one of the slots from first on and below end is in the range of the page of this page level and index
 unfoldable pub is_touched : ℕ → ℕ → ℕ → ℕ → Bool
-is_touched first end level index = nat_lt first end && (nat_lt first (end_slot (top_of_page level index)) && nat_lt (first_slot (top_of_page level index)) end)
+is_touched first end level index = nat_lt first end
+    && (nat_lt first (end_slot (top_of_page level index)) && nat_lt (first_slot (top_of_page level index)) end)
 
 -- the tree of this height gets a new root for this range
 unfoldable pub is_new_root : ℕ → ℕ → ℕ → Bool

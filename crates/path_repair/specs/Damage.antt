@@ -65,7 +65,8 @@ abbrev pub HasUnfit : Image → ℕ → ℕ → ℕ → ℕ → ℕ → ℕ → 
 HasUnfit image fresh last total zero page at = ⊥
 HasUnfit image fresh last total (suc level) page at =
     ((page ≢ 0) × (at ≡ page) × IsUnfit total (suc level) (image page))
-    ⊎ ((bytes : List ℕ) × (child : ℕ) × IsAbove image fresh last (suc level) page bytes × (child < 128) × HasUnfit image fresh last total level (child_at bytes child) at)
+    ⊎ ((bytes : List ℕ) × (child : ℕ) × IsAbove image fresh last (suc level) page bytes × (child < 128)
+    × HasUnfit image fresh last total level (child_at bytes child) at)
 
 -- of the tree below a page of this page level, whose top has this span, this one has a coefficient that doesn't
 -- split the span that those above it give
@@ -73,7 +74,8 @@ abbrev pub HasUnsplit : Image → ℕ → ℕ → ℕ → ℕ → Option Span �
 HasUnsplit image fresh last zero page top at = ⊥
 HasUnsplit image fresh last (suc level) page top at =
     ((page ≢ 0) × (at ≡ page) × IsUnsplitPage top (image page))
-    ⊎ ((bytes : List ℕ) × (spans : ℕ → Option Span) × (child : ℕ) × IsAbove image fresh last (suc level) page bytes × AreBelow top bytes spans × (child < 128)
+    ⊎ ((bytes : List ℕ) × (spans : ℕ → Option Span) × (child : ℕ) × IsAbove image fresh last (suc level) page bytes
+    × AreBelow top bytes spans × (child < 128)
     × HasUnsplit image fresh last level (child_at bytes child) (spans (127 + child)) at)
 
 -- the page is the head of the chain, and breaks its layout
@@ -85,7 +87,8 @@ pub record IsBadHead (image : Image) (s : Superblock) (at : ℕ) : Type 0 where
 -- The page is damaged: it is one of the tree below this page, and unfit for its place or its span, or it
 -- is the head of the chain. Pages below fresh were in use before, and those from s.fresh on still aren't.
 abbrev pub IsDamaged : Image → ℕ → Superblock → ℕ → ℕ → Option Span → ℕ → Type 0
-IsDamaged image fresh s level page top at = HasUnfit image fresh s.fresh s.total level page at ⊎ (HasUnsplit image fresh s.fresh level page top at ⊎ IsBadHead image s at)
+IsDamaged image fresh s level page top at = HasUnfit image fresh s.fresh s.total level page at
+    ⊎ (HasUnsplit image fresh s.fresh level page top at ⊎ IsBadHead image s at)
 
 -- which page `Damaged` names, where reads tell what the pages are
 abbrev pub IsDamage : Image → ℕ → Superblock → ℕ → ℕ → Option Span → RepairError → Type 0

@@ -22,7 +22,8 @@ pub record IsHeldTree (count : ℕ) (image : Image) (s : Superblock) (tree : Tre
   pub stands : Stands count image s (tree_pages image (page_levels tree.slots) tree.root ++ others) freed
 
 -- the same of the changed tree, and the pages of the others are as they were
-pub record IsEditedTree (count : ℕ) (before image : Image) (s : Superblock) (tree : Tree) (list : List (Option ℤ)) (others : List ℕ) : Type 0 where
+pub record IsEditedTree (count : ℕ) (before image : Image) (s : Superblock) (tree : Tree) (list : List (Option ℤ))
+    (others : List ℕ) : Type 0 where
   pub holds : IsHeldTree count image s tree list others
   pub others_same : SameOn others before image
 

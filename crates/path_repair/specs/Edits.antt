@@ -25,7 +25,12 @@ edit_of first end slots values = record { first = first; end = end; slots = slot
 
 -- values are put from a slot on
 abbrev pub run_in : Tree → ℕ → List (Option ℤ) → Edit
-run_in tree slot values = record { first = slot; end = slot + length values; slots = max tree.slots (slot + length values); values = values }
+run_in tree slot values = record {
+  first = slot;
+  end = slot + length values;
+  slots = max tree.slots (slot + length values);
+  values = values;
+}
 
 -- one value is put
 abbrev pub slot_in : Tree → ℕ → ℤ → Edit
@@ -53,7 +58,8 @@ IsAfter old new base count tree list others = IsEditedTree count (left_by old ba
 
 -- which page of the tree `Damaged` names
 abbrev pub IsDamageOf : Txn → Txn → Image → Tree → RepairError → Type 0
-IsDamageOf old new base tree cause = IsDamage (left_by new base) (told_by old).fresh (told_by new) (page_levels tree.slots) tree.root tree.span cause
+IsDamageOf old new base tree cause = IsDamage (left_by new base) (told_by old).fresh (told_by new)
+    (page_levels tree.slots) tree.root tree.span cause
 
 -- the page is damaged before the change, where the pages of the tree, as far as they fit, and of the chain are apart
 abbrev pub BlamesStored : Txn → Image → Tree → RepairError → Type 0
@@ -64,11 +70,13 @@ BlamesStored txn base tree cause =
 
 -- which page of the tree below a place `Damaged` names
 abbrev pub IsDamageAt : Txn → Txn → Image → ℕ → ℕ → ℕ → ℕ → Option Span → RepairError → Type 0
-IsDamageAt old new base height level index page top cause = IsDamage (left_by new base) (told_by old).fresh (told_by new) (root_level height level index) page top cause
+IsDamageAt old new base height level index page top cause = IsDamage (left_by new base) (told_by old).fresh (told_by new)
+    (root_level height level index) page top cause
 
 -- and which one that is unfit for its place alone
 abbrev pub IsUnfitUnder : Txn → Image → ℕ → ℕ → ℕ → ℕ → ℕ → RepairError → Type 0
-IsUnfitUnder txn base total height level index page cause = IsUnfitBelow (left_by txn base) (told_by txn).fresh total (root_level height level index) page cause
+IsUnfitUnder txn base total height level index page cause = IsUnfitBelow (left_by txn base) (told_by txn).fresh total
+    (root_level height level index) page cause
 
 -- the pages of the catalog, none of which is of the kind of a tree page, are what they were
 abbrev pub LeavesCatalog : Txn → Txn → Image → Type 0

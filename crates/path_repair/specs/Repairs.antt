@@ -19,7 +19,8 @@ use Rattle.path_repair.specs.declared.errors.RepairError.{RepairError}
 module _ {P : Type 0} {g : Ghosts P} where
   -- a call reads at most so many blocks, and puts at most so many pages into a transaction
   abbrev pub Moves : ℕ → ℕ → Space P g → Space P g → Txn → Txn → Type 0
-  Moves reads puts old new before after = Moved reads puts (shown.IsTold old) (shown.IsTold new) (shown.view old) (shown.view new) (shown.under old) (shown.under new) (shown.numbers old) (shown.numbers new) before after
+  Moves reads puts old new before after = Moved reads puts (shown.IsTold old) (shown.IsTold new) (shown.view old) (shown.view new)
+      (shown.under old) (shown.under new) (shown.numbers old) (shown.numbers new) before after
 
   -- an edit reads and puts at most the pages that it passes, and may read each of them twice
   abbrev pub Edits : Space P g → Space P g → Txn → Txn → Tree → Edit → Type 0
@@ -39,7 +40,8 @@ module _ {P : Type 0} {g : Ghosts P} where
 
   -- so of them, and of the page level below this one
   abbrev pub ForPagesAbove : Space P g → ℕ → (Image → ℕ → Type 0) → Type 0
-  ForPagesAbove it level IsSo = (base : Image) (below : ℕ) → AreTold (shown.IsTold it) (shown.view it) base → level ≡ suc below → IsSo base below
+  ForPagesAbove it level IsSo = (base : Image) (below : ℕ) → AreTold (shown.IsTold it) (shown.view it) base → level ≡ suc below
+      → IsSo base below
 
   -- so of each list that the pages stand for with the tree, and of the list that the edit makes of it
   abbrev pub ForEdit : Space P g → Txn → Tree → Edit → (Image → ℕ → List (Option ℤ) → List (Option ℤ) → List ℕ → Type 0) → Type 0
@@ -55,7 +57,9 @@ module _ {P : Type 0} {g : Ghosts P} where
       → Stands count (left_by txn base) (told_by txn) used freed → IsSo base count used
 
   -- so of the pages as they were stored, where these are apart: those in hand, and those left alone
-  abbrev pub ForApart : Space P g → Txn → ((ℕ → ℕ → Bool) → Image → (ℕ → ℕ) → ℕ → ℕ) → (Image → (ℕ → ℕ → Bool) → Image → Superblock → (ℕ → ℕ) → (ℕ → ℕ) → Type 0) → Type 0
+  abbrev pub ForApart : Space P g → Txn → ((ℕ → ℕ → Bool) → Image → (ℕ → ℕ) → ℕ → ℕ)
+      → (Image → (ℕ → ℕ → Bool) → Image → Superblock → (ℕ → ℕ) → (ℕ → ℕ) → Type 0) → Type 0
   ForApart it txn left IsSo =
-      (base : Image) (fits : ℕ → ℕ → Bool) (stored : Image) (from : Superblock) (mine kept : ℕ → ℕ) → AreTold (shown.IsTold it) (shown.view it) base
+      (base : Image) (fits : ℕ → ℕ → Bool) (stored : Image) (from : Superblock) (mine kept : ℕ → ℕ)
+      → AreTold (shown.IsTold it) (shown.view it) base
       → StandsApart fits stored (left_by txn base) from (told_by txn) mine (left fits stored kept) → IsSo base fits stored from mine kept

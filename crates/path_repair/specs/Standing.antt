@@ -49,7 +49,8 @@ pub record AreLists (first end : ℕ) (values list list' : List (Option ℤ)) : 
 
 -- The pages stand for the list in the range of this page level and index, with a root and its span. Beside its pages
 -- the others are in use, and there is room for all pages that the list or the changed one needs.
-pub record IsPlaced (count : ℕ) (image : Image) (s : Superblock) (list list' : List (Option ℤ)) (height level index page : ℕ) (top : Option Span) (others : List ℕ) : Type 0 where
+pub record IsPlaced (count : ℕ) (image : Image) (s : Superblock) (list list' : List (Option ℤ)) (height level index page : ℕ)
+    (top : Option Span) (others : List ℕ) : Type 0 where
   pub rooted : IsRooted image s.total list height level index page
   pub top_is : top ≡ span list (top_of_page level index)
   pub freed : List ℕ
@@ -58,13 +59,16 @@ pub record IsPlaced (count : ℕ) (image : Image) (s : Superblock) (list list' :
 
 -- so of each list that the pages stand for there, as a transaction would leave them, and of the one that a change of these
 -- slots makes of it
-abbrev pub ForPlaced : Type 0 → View → Txn → ℕ → ℕ → List (Option ℤ) → ℕ → ℕ → ℕ → ℕ → Option Span → (List (Option ℤ) → List (Option ℤ) → Type 0) → Type 0
+abbrev pub ForPlaced : Type 0 → View → Txn → ℕ → ℕ → List (Option ℤ) → ℕ → ℕ → ℕ → ℕ → Option Span
+    → (List (Option ℤ) → List (Option ℤ) → Type 0) → Type 0
 ForPlaced told view txn first end values height level index page top IsSo =
-    (base : Image) (count : ℕ) (list list' : List (Option ℤ)) (others : List ℕ) → AreTold told view base → AreLists first end values list list'
+    (base : Image) (count : ℕ) (list list' : List (Option ℤ)) (others : List ℕ) → AreTold told view base
+    → AreLists first end values list list'
     → IsPlaced count (left_by txn base) (told_by txn) list list' height level index page top others → IsSo list list'
 
 -- the pages stand for the list there, and those of the others are as they were
-pub record IsRepaired (count : ℕ) (before image : Image) (s : Superblock) (list : List (Option ℤ)) (level index page : ℕ) (top : Option Span) (others : List ℕ) : Type 0 where
+pub record IsRepaired (count : ℕ) (before image : Image) (s : Superblock) (list : List (Option ℤ)) (level index page : ℕ)
+    (top : Option Span) (others : List ℕ) : Type 0 where
   pub tree : IsTree image s.total list level index page
   pub top_is : top ≡ span list (top_of_page level index)
   pub freed : List ℕ
@@ -74,10 +78,12 @@ pub record IsRepaired (count : ℕ) (before image : Image) (s : Superblock) (lis
 -- the pages of the children below n, of a page that holds these bytes: those of the children below i are of the
 -- page level, the others of a tree that is to grow to it
 abbrev pub part : Image → ℕ → ℕ → List ℕ → ℕ → ℕ → List ℕ
-part image height level bytes i n = join_below (λ child. tree_pages image (if nat_lt child i then level else low height level) (child_at bytes child)) n
+part image height level bytes i n = join_below (λ child. tree_pages image (if nat_lt child i then level
+    else low height level) (child_at bytes child)) n
 
 -- The children below i of a page that is being changed stand for the changed list, the others for the list.
-pub record IsPartWay (count : ℕ) (before image : Image) (s : Superblock) (list list' : List (Option ℤ)) (height level index number : ℕ) (bytes : List ℕ) (tops : ℕ → Option Span) (i : ℕ) (others : List ℕ) : Type 0 where
+pub record IsPartWay (count : ℕ) (before image : Image) (s : Superblock) (list list' : List (Option ℤ)) (height level index number : ℕ)
+    (bytes : List ℕ) (tops : ℕ → Option Span) (i : ℕ) (others : List ℕ) : Type 0 where
   pub done : (child : ℕ) → child < i → IsTree image s.total list' level (128 * index + child) (child_at bytes child)
   pub left : (child : ℕ) → i ≤ child → child < 128 → IsRooted image s.total list height level (128 * index + child) (child_at bytes child)
   pub tops_done : (child : ℕ) → child < i → tops child ≡ span list' (top_of_page level (128 * index + child))
@@ -85,10 +91,12 @@ pub record IsPartWay (count : ℕ) (before image : Image) (s : Superblock) (list
   pub freed : List ℕ
   pub stands : Stands count image s (number ∷ (part image height level bytes i 128 ++ others)) freed
   pub same : SameOn others before image
-  pub roomy : 18 + length others + sum_below (λ child. count_where (is_stored_in_either list list') level (128 * index + child)) 128 ≤ s.total
+  pub roomy : 18 + length others + sum_below (λ child. count_where (is_stored_in_either list list') level (128 * index + child))
+      128 ≤ s.total
 
 -- a call reads at most so many blocks, and puts at most so many pages into a transaction
-pub record Moved (most_reads most_puts : ℕ) (told_old told_new : Type 0) (old new under_old under_new : View) (before after : Superblock) (txn_old txn_new : Txn) : Type 0 where
+pub record Moved (most_reads most_puts : ℕ) (told_old told_new : Type 0) (old new under_old under_new : View) (before after : Superblock)
+    (txn_old txn_new : Txn) : Type 0 where
   pub reads : ReadsMost most_reads told_old told_new old new
   pub over : StaysOn before after under_old under_new
   pub total : (told_by txn_new).total ≡ (told_by txn_old).total
@@ -110,6 +118,8 @@ pub record IsTaken (count : ℕ) (before image : Image) (s : Superblock) (used :
   pub same : (q : ℕ) → 0 < q → image q ≡ before q
 
 -- the children of a page, or of one that is to be new above it: so many pages are new, and the others are theirs
-pub record IsSeen (image : Image) (total : ℕ) (list : List (Option ℤ)) (height level index page : ℕ) (bytes : List ℕ) (pages : ℕ) : Type 0 where
+pub record IsSeen (image : Image) (total : ℕ) (list : List (Option ℤ)) (height level index page : ℕ) (bytes : List ℕ)
+    (pages : ℕ) : Type 0 where
   pub rooted : (child : ℕ) → child < 128 → IsRooted image total list height level (128 * index + child) (child_at bytes child)
-  pub sum : 1 + sum_below (λ child. length (tree_pages image (low height level) (child_at bytes child))) 128 ≡ pages + length (tree_pages image (low height (suc level)) page)
+  pub sum : 1 + sum_below (λ child. length (tree_pages image (low height level) (child_at bytes child))) 128 ≡ pages + length
+      (tree_pages image (low height (suc level)) page)

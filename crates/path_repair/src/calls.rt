@@ -1,12 +1,14 @@
 //! The changes of a tree.
-ghost use Rattle.std.specs.Prelude.{◌≡◌, ◌<◌, ◌≤◌, ◌+◌, ◌-◌, ◌*◌, ◌^◌, ℕ, ℤ, [], ◌∷◌, max, Some, false, length, slice_get, IfOk, IfErr, OnOk, ◌≢◌};
+ghost use Rattle.std.specs.Prelude.{◌≡◌, ◌<◌, ◌≤◌, ◌+◌, ◌-◌, ◌*◌, ◌^◌, ℕ, ℤ, [], ◌∷◌, max, Some, false, length, slice_get, IfOk, IfErr};
+ghost use Rattle.std.specs.Prelude.{OnOk, ◌≢◌};
 ghost use Rattle.om3_coeff.specs.Keys.{page_levels as levels_of};
 ghost use Rattle.om3_coeff.specs.Spans.{IsProperIfAny};
 ghost use Rattle.whole_number.specs.Range.{IsValue};
 ghost use Rattle.page_space.specs.Shown as shown;
 ghost use Rattle.page_space.specs.Transactions.{held, told_by};
 ghost use Rattle.path_repair.specs.Edited.{IsErrorFor};
-ghost use Rattle.path_repair.specs.Edits.{edit_of, run_in, slot_in, grow_to, clear_in, passed, IsAfter, IsDamageOf, BlamesStored, LeavesCatalog};
+ghost use Rattle.path_repair.specs.Edits.{edit_of, run_in, slot_in, grow_to, clear_in, passed, IsAfter, IsDamageOf, BlamesStored};
+ghost use Rattle.path_repair.specs.Edits.{LeavesCatalog};
 ghost use Rattle.path_repair.specs.Keeping.{IsNewTree};
 ghost use Rattle.path_repair.specs.Repairs as repairs;
 ghost use Rattle.path_repair.specs.declared.errors.RepairError.{RepairError};
@@ -124,14 +126,19 @@ pub fn put_run<P: Pages>(
     ensures damaged { repairs.ForPages space.old (λ base. IfErr result (λ e. IsDamageOf txn.old txn.new base tree e)) }
     // where the pages of the tree and of the chain are apart, it is so before the change
     ensures stored { repairs.ForPages space.old (λ base. IfErr result (BlamesStored txn.old base tree)) }
-    ensures few_puts { length values.now ≤ 256 → length (held txn.new) ≤ length (held txn.old) + (30 + 2 * levels_of (max tree.slots (slot + length values.now))) }
-    ensures edited { repairs.ForEdit space.old txn.old tree (run_in tree slot values.now) (λ base count list list' others. IfOk result (λ new. IsAfter txn.old txn.new base count new list' others)) }
-    ensures errors { repairs.ForEdit space.old txn.old tree (run_in tree slot values.now) (λ base count list list' others. IfErr result (λ e. IsErrorFor txn.old txn.new list list' e)) }
+    ensures few_puts { length values.now ≤ 256 → length (held txn.new) ≤ length
+        (held txn.old) + (30 + 2 * levels_of (max tree.slots (slot + length values.now))) }
+    ensures edited { repairs.ForEdit space.old txn.old tree (run_in tree slot values.now)
+        (λ base count list list' others. IfOk result (λ new. IsAfter txn.old txn.new base count new list' others)) }
+    ensures errors { repairs.ForEdit space.old txn.old tree (run_in tree slot values.now)
+        (λ base count list list' others. IfErr result (λ e. IsErrorFor txn.old txn.new list list' e)) }
     // where no change is noted nothing is put and no slot is another, and none is noted of a change that makes the same list
     ensures was { changed.new ≡ false → changed.old ≡ false }
     ensures kept { changed.new ≡ false → OnOk result (txn.new ≡ txn.old) }
-    ensures same { changed.new ≡ false → repairs.ForEdit space.old txn.old tree (run_in tree slot values.now) (λ base count list list' rest. length list' ≡ length list → OnOk result (list' ≡ list)) }
-    ensures idle { changed.old ≡ false → repairs.ForEdit space.old txn.old tree (run_in tree slot values.now) (λ base count list list' others. list' ≡ list → OnOk result (changed.new ≡ false)) }
+    ensures same { changed.new ≡ false → repairs.ForEdit space.old txn.old tree (run_in tree slot values.now)
+        (λ base count list list' rest. length list' ≡ length list → OnOk result (list' ≡ list)) }
+    ensures idle { changed.old ≡ false → repairs.ForEdit space.old txn.old tree (run_in tree slot values.now)
+        (λ base count list list' others. list' ≡ list → OnOk result (changed.new ≡ false)) }
 {
     let end = slot + values.len() as u64;
     let slots = Slots { first: slot, end };
@@ -173,8 +180,10 @@ pub fn put_slot<P: Pages>(
     ensures stored { repairs.ForPages space.old (λ base. IfErr result (BlamesStored txn.old base tree)) }
     ensures few_reads { (shown.view space.new).reads ≤ (shown.view space.old).reads + 2 * levels_of (max tree.slots (slot + 1)) }
     ensures few_puts { length (held txn.new) ≤ length (held txn.old) + 2 * levels_of (max tree.slots (slot + 1)) }
-    ensures edited { repairs.ForEdit space.old txn.old tree (slot_in tree slot value) (λ base count list list' others. IfOk result (λ new. IsAfter txn.old txn.new base count new list' others)) }
-    ensures errors { repairs.ForEdit space.old txn.old tree (slot_in tree slot value) (λ base count list list' others. IfErr result (λ e. IsErrorFor txn.old txn.new list list' e)) }
+    ensures edited { repairs.ForEdit space.old txn.old tree (slot_in tree slot value)
+        (λ base count list list' others. IfOk result (λ new. IsAfter txn.old txn.new base count new list' others)) }
+    ensures errors { repairs.ForEdit space.old txn.old tree (slot_in tree slot value)
+        (λ base count list list' others. IfErr result (λ e. IsErrorFor txn.old txn.new list list' e)) }
 {
     let end = slot + 1;
     let slots = Slots { first: slot, end };
@@ -215,8 +224,10 @@ pub fn grow<P: Pages>(
     // where the pages of the tree and of the chain are apart, it is so before the change
     ensures stored { repairs.ForPages space.old (λ base. IfErr result (BlamesStored txn.old base tree)) }
     ensures few_puts { length (held txn.new) ≤ length (held txn.old) + (levels_of slots - levels_of tree.slots) }
-    ensures edited { repairs.ForEdit space.old txn.old tree (grow_to slots) (λ base count list list' others. IfOk result (λ new. IsAfter txn.old txn.new base count new list' others)) }
-    ensures errors { repairs.ForEdit space.old txn.old tree (grow_to slots) (λ base count list list' others. IfErr result (λ e. IsErrorFor txn.old txn.new list list' e)) }
+    ensures edited { repairs.ForEdit space.old txn.old tree (grow_to slots)
+        (λ base count list list' others. IfOk result (λ new. IsAfter txn.old txn.new base count new list' others)) }
+    ensures errors { repairs.ForEdit space.old txn.old tree (grow_to slots)
+        (λ base count list list' others. IfErr result (λ e. IsErrorFor txn.old txn.new list list' e)) }
 {
     let none = Slots { first: 0, end: 0 };
     fill(space, txn, tree, none, &[], slots, &mut false)
@@ -239,7 +250,8 @@ pub fn clear_run<P: Pages>(
     requires few { tree.slots ≤ 2 ^ 35 }
     requires within { slot + count ≤ 2 ^ 35 }
     requires room { length (held txn.old) + passed tree (clear_in tree slot count) ≤ 64 }
-    ensures moved { repairs.Moves (1 * passed tree (clear_in tree slot count)) (passed tree (clear_in tree slot count)) space.old space.new txn.old txn.new }
+    ensures moved { repairs.Moves (1 * passed tree (clear_in tree slot count))
+        (passed tree (clear_in tree slot count)) space.old space.new txn.old txn.new }
     ensures cause { IfErr result (λ e. repairs.Explains e space.old space.new) }
     ensures quiet { OnOk result ((shown.view space.new).faults ≡ (shown.view space.old).faults) }
     ensures quiet_err { IfErr result (λ e. e ≢ RepairError.DiskFault → (shown.view space.new).faults ≡ (shown.view space.old).faults) }
@@ -249,13 +261,17 @@ pub fn clear_run<P: Pages>(
     // where the pages of the tree and of the chain are apart, it is so before the change
     ensures stored { repairs.ForPages space.old (λ base. IfErr result (BlamesStored txn.old base tree)) }
     ensures few_puts { count ≤ 4096 → length (held txn.new) ≤ length (held txn.old) + (30 + 2 * levels_of tree.slots) }
-    ensures edited { repairs.ForEdit space.old txn.old tree (clear_in tree slot count) (λ base size list list' others. IfOk result (λ new. IsAfter txn.old txn.new base size new list' others)) }
-    ensures errors { repairs.ForEdit space.old txn.old tree (clear_in tree slot count) (λ base size list list' others. IfErr result (λ e. e ≡ RepairError.DiskFault)) }
+    ensures edited { repairs.ForEdit space.old txn.old tree (clear_in tree slot count)
+        (λ base size list list' others. IfOk result (λ new. IsAfter txn.old txn.new base size new list' others)) }
+    ensures errors { repairs.ForEdit space.old txn.old tree (clear_in tree slot count)
+        (λ base size list list' others. IfErr result (λ e. e ≡ RepairError.DiskFault)) }
     // as for `put_run`
     ensures was { changed.new ≡ false → changed.old ≡ false }
     ensures kept { changed.new ≡ false → OnOk result (txn.new ≡ txn.old) }
-    ensures same { changed.new ≡ false → repairs.ForEdit space.old txn.old tree (clear_in tree slot count) (λ base size list list' others. OnOk result (list' ≡ list)) }
-    ensures idle { changed.old ≡ false → repairs.ForEdit space.old txn.old tree (clear_in tree slot count) (λ base size list list' others. list' ≡ list → OnOk result (changed.new ≡ false)) }
+    ensures same { changed.new ≡ false → repairs.ForEdit space.old txn.old tree (clear_in tree slot count)
+        (λ base size list list' others. OnOk result (list' ≡ list)) }
+    ensures idle { changed.old ≡ false → repairs.ForEdit space.old txn.old tree (clear_in tree slot count)
+        (λ base size list list' others. list' ≡ list → OnOk result (changed.new ≡ false)) }
 {
     let levels = page_levels(tree.slots);
     let at = Place {

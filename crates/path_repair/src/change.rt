@@ -94,7 +94,8 @@ impl Place {
         requires small { end_slot (top_of_page self.level self.index) < 2 ^ 63 }
         ensures untouched { IsTrue result → is_touched slots.first slots.end self.level self.index ≡ false }
         ensures no_root { IsTrue result → is_new_root self.height self.level self.index ≡ false }
-        ensures passed { result ≡ false → (is_touched slots.first slots.end self.level self.index || is_new_root self.height self.level self.index) ≡ true }
+        ensures passed { result ≡ false → (is_touched slots.first slots.end self.level self.index || is_new_root self.height self.level
+            self.index) ≡ true }
     {
         !self.is_touched(slots) && !self.is_new_root()
     }
@@ -103,8 +104,10 @@ impl Place {
     fn has_new(self, slots: Slots, values: &[Option<i64>]) -> bool
         requires level { self.level ≤ 5 }
         requires small { end_slot (top_of_page self.level self.index) < 2 ^ 63 }
-        ensures some { IsTrue result → HasNew slots.first slots.end values.now (first_slot (top_of_page self.level self.index)) (end_slot (top_of_page self.level self.index)) }
-        ensures none { result ≡ false → HasNew slots.first slots.end values.now (first_slot (top_of_page self.level self.index)) (end_slot (top_of_page self.level self.index)) → ⊥ }
+        ensures some { IsTrue result → HasNew slots.first slots.end values.now (first_slot (top_of_page self.level self.index))
+            (end_slot (top_of_page self.level self.index)) }
+        ensures none { result ≡ false → HasNew slots.first slots.end values.now (first_slot (top_of_page self.level self.index))
+            (end_slot (top_of_page self.level self.index)) → ⊥ }
     {
         let top = self.top();
         let from = top.first().max(slots.first);

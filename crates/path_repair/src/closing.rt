@@ -39,8 +39,10 @@ pub(crate) fn close_page<P: Pages>(
     ensures matched { IsMatched result.page result.span }
     ensures others { (p : ℕ) → 1 ≤ p → p ≢ number → held_page txn.new p ≡ held_page txn.old p }
     ensures apart { LeavesApart number txn.old txn.new }
-    ensures repaired { (base before : Image) (count : ℕ) (list list' : List (Option ℤ)) (others : List ℕ) (below : ℕ) → at.level ≡ suc below → AreSlots list'
-        → IsPartWay count before (left_by txn.old base) (told_by txn.old) list list' at.height below at.index number bytes.old (λ child. span_at spans.old (127 + child)) 128 others
+    ensures repaired { (base before : Image) (count : ℕ) (list list' : List (Option ℤ)) (others : List ℕ) (below : ℕ) → at.level ≡ suc below
+        → AreSlots list'
+        → IsPartWay count before (left_by txn.old base) (told_by txn.old) list list' at.height below at.index number bytes.old
+        (λ child. span_at spans.old (127 + child)) 128 others
         → IsRepaired count before (left_by txn.new base) (told_by txn.new) list' at.level at.index result.page result.span others }
 {
     spans.gather(bytes);

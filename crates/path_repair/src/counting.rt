@@ -42,12 +42,16 @@ fn look<P: Pages>(
     ensures form { OnOk result (IsForm at.level (shown.total space.old) bytes.new) }
     ensures few { IfOk result (λ pages. pages ≤ 1) }
     ensures opened { OnOk result (IsLookedAt at.height at.level at.index page bytes.new) }
-    ensures as_told { repairs.ForPages space.old (λ base. OnOk result (IsAsTold (left_by txn.now base) at.height at.level at.index page bytes.new)) }
-    ensures unfit { repairs.ForPagesAbove space.old at.level (λ base below. IfErr result (λ e. IsUnfitUnder txn.now base (shown.total space.old) at.height at.level at.index page e)) }
-    ensures seen { (base : Image) (list : List (Option ℤ)) (below : ℕ) → AreTold (shown.IsTold space.old) (shown.view space.old) base → at.level ≡ suc below
+    ensures as_told { repairs.ForPages space.old (λ base. OnOk result
+        (IsAsTold (left_by txn.now base) at.height at.level at.index page bytes.new)) }
+    ensures unfit { repairs.ForPagesAbove space.old at.level
+        (λ base below. IfErr result (λ e. IsUnfitUnder txn.now base (shown.total space.old) at.height at.level at.index page e)) }
+    ensures seen { (base : Image) (list : List (Option ℤ)) (below : ℕ) → AreTold (shown.IsTold space.old) (shown.view space.old) base
+        → at.level ≡ suc below
         → IsRooted (left_by txn.now base) (shown.total space.old) list at.height at.level at.index page
         → IfOk result (λ pages. IsSeen (left_by txn.now base) (shown.total space.old) list at.height below at.index page bytes.new pages) }
-    ensures only_faults { (base : Image) (list : List (Option ℤ)) (below : ℕ) → AreTold (shown.IsTold space.old) (shown.view space.old) base → at.level ≡ suc below
+    ensures only_faults { (base : Image) (list : List (Option ℤ)) (below : ℕ) → AreTold (shown.IsTold space.old) (shown.view space.old) base
+        → at.level ≡ suc below
         → IsRooted (left_by txn.now base) (shown.total space.old) list at.height at.level at.index page
         → IfErr result (λ e. e ≡ RepairError.DiskFault) }
 {
@@ -73,16 +77,19 @@ pub(crate) fn new_pages<P: Pages>(
     requires small { end_slot (top_of_page at.level at.index) ≤ 2 ^ 35 }
     requires page { page < shown.total space.old }
     requires room { touch slots.first slots.end at.height at.level at.index ≤ 64 }
-    ensures moved { repairs.Moves (count_most page slots.first slots.end at.height at.level at.index) 0 space.old space.new txn.now txn.now }
+    ensures moved { repairs.Moves (count_most page slots.first slots.end at.height at.level at.index) 0 space.old space.new txn.now
+        txn.now }
     ensures cause { IfErr result (λ e. repairs.Explains e space.old space.new) }
     ensures quiet { OnOk result ((shown.view space.new).faults ≡ (shown.view space.old).faults) }
     ensures quiet_err { IfErr result (λ e. e ≢ RepairError.DiskFault → (shown.view space.new).faults ≡ (shown.view space.old).faults) }
     ensures few { IfOk result (λ pages. pages ≤ touch slots.first slots.end at.height at.level at.index) }
-    ensures unfit { repairs.ForPages space.old (λ base. IfErr result (λ e. IsUnfitUnder txn.now base (shown.total space.old) at.height at.level at.index page e)) }
+    ensures unfit { repairs.ForPages space.old (λ base. IfErr result
+        (λ e. IsUnfitUnder txn.now base (shown.total space.old) at.height at.level at.index page e)) }
     ensures counts { (base : Image) (list list' : List (Option ℤ)) → AreTold (shown.IsTold space.old) (shown.view space.old) base
         → AreLists slots.first slots.end values.now list list' → slots.end ≤ slots.first + length values.now
         → IsRooted (left_by txn.now base) (shown.total space.old) list at.height at.level at.index page
-        → IfOk result (λ pages. pages + length (tree_pages (left_by txn.now base) (low at.height at.level) page) ≡ page_count list' at.level at.index) }
+        → IfOk result (λ pages. pages + length (tree_pages (left_by txn.now base) (low at.height at.level) page) ≡ page_count list' at.level
+        at.index) }
     ensures only_faults { (base : Image) (list list' : List (Option ℤ)) → AreTold (shown.IsTold space.old) (shown.view space.old) base
         → AreLists slots.first slots.end values.now list list' → slots.end ≤ slots.first + length values.now
         → IsRooted (left_by txn.now base) (shown.total space.old) list at.height at.level at.index page

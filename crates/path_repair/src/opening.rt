@@ -1,5 +1,6 @@
 //! A page is opened to be changed: it is read, or a new one is taken.
-ghost use Rattle.std.specs.Prelude.{◌≡◌, ◌≢◌, ◌<◌, ◌≤◌, ◌+◌, ◌⊎◌, ℕ, ℤ, suc, Option, List, None, true, false, length, slice_index, IfOk, IfErr, OnOk};
+ghost use Rattle.std.specs.Prelude.{◌≡◌, ◌≢◌, ◌<◌, ◌≤◌, ◌+◌, ◌⊎◌, ℕ, ℤ, suc, Option, List, None, true, false, length, slice_index, IfOk};
+ghost use Rattle.std.specs.Prelude.{IfErr, OnOk};
 ghost use Rattle.block_disk.specs.Blocks.{IsBlock};
 ghost use Rattle.block_disk.specs.View.{Image};
 ghost use Rattle.om3_coeff.specs.Spans.{IsProperIfAny, AreSlots};
@@ -41,10 +42,14 @@ fn take<P: Pages>(space: &mut Space<P>, txn: &mut Txn) -> Result<u32, RepairErro
     ensures own { (base : Image) (level : ℕ) → AreTold (shown.IsTold space.old) (shown.view space.old) base
         → IfOk result (λ p. IsOwn (left_by txn.old base) (told_by txn.old).fresh (told_by txn.new).fresh level p) }
     ensures head { repairs.ForPages space.old (λ base. IfErr result (λ e. IsHeadCause (left_by txn.new base) (told_by txn.new) e)) }
-    ensures apart { repairs.ForApart space.old txn.old (λ fits stored kept. kept) (λ base fits stored from mine kept. IfOk result (StandsWith txn.new base fits stored from mine kept)) }
-    ensures broken { repairs.ForApart space.old txn.old (λ fits stored kept. kept) (λ base fits stored from mine kept. IfErr result (NamesLink stored from)) }
-    ensures taken { repairs.ForStanding space.old txn.old (λ base count used. IfOk result (λ p. IsTaken count (left_by txn.old base) (left_by txn.new base) (told_by txn.new) used p)) }
-    ensures sound { repairs.ForStanding space.old txn.old (λ base count used. 18 + length used ≤ (told_by txn.old).total → IfErr result (λ e. e ≡ RepairError.DiskFault)) }
+    ensures apart { repairs.ForApart space.old txn.old (λ fits stored kept. kept)
+        (λ base fits stored from mine kept. IfOk result (StandsWith txn.new base fits stored from mine kept)) }
+    ensures broken { repairs.ForApart space.old txn.old (λ fits stored kept. kept)
+        (λ base fits stored from mine kept. IfErr result (NamesLink stored from)) }
+    ensures taken { repairs.ForStanding space.old txn.old
+        (λ base count used. IfOk result (λ p. IsTaken count (left_by txn.old base) (left_by txn.new base) (told_by txn.new) used p)) }
+    ensures sound { repairs.ForStanding space.old txn.old (λ base count used. 18 + length used ≤ (told_by txn.old).total
+        → IfErr result (λ e. e ≡ RepairError.DiskFault)) }
 {
     match space.alloc(txn) {
         Ok(page) => Ok(page),
@@ -112,22 +117,35 @@ pub(crate) fn open_page<P: Pages>(
     ensures number { IfOk result (λ number. (1 ≤ number) × (number < shown.total space.old)) }
     ensures first { OnlyFirst txn.old txn.new }
     ensures root { IfOk result (λ number. (number ≡ root.page) ⊎ IsGiven (told_by txn.new).fresh number) }
-    ensures own { repairs.ForPages space.old (λ base. IfOk result (λ number. IsOwn (left_by txn.old base) (told_by txn.old).fresh (told_by txn.new).fresh at.level number)) }
+    ensures own { repairs.ForPages space.old (λ base. IfOk result
+        (λ number. IsOwn (left_by txn.old base) (told_by txn.old).fresh (told_by txn.new).fresh at.level number)) }
     ensures opened { OnOk result (IsOpened at.height at.level at.index root.page root.span bytes.new (span_at spans.new)) }
-    ensures as_told { repairs.ForPages space.old (λ base. OnOk result (IsAsTold (left_by txn.old base) at.height at.level at.index root.page bytes.new)) }
-    ensures damaged { repairs.ForPagesAbove space.old at.level (λ base below. IfErr result (λ e. IsDamageAt txn.old txn.new base at.height at.level at.index root.page root.span e)) }
-    ensures apart { (below : ℕ) → at.level ≡ suc below → repairs.ForApart space.old txn.old (λ fits stored. and_tree fits stored at.height at.level at.index root.page)
-        (λ base fits stored from mine kept. IfOk result (λ number. StandsApart fits stored (left_by txn.new base) from (told_by txn.new) (and_page number mine) (and_children fits stored at.height below at.index bytes.new 0 kept))) }
-    ensures broken { (below : ℕ) → at.level ≡ suc below → repairs.ForApart space.old txn.old (λ fits stored. and_tree fits stored at.height at.level at.index root.page)
-        (λ base fits stored from mine kept. IfErr result (NamesDamaged stored from (shown.total space.old) (root_level at.height at.level at.index) root.page root.span)) }
+    ensures as_told { repairs.ForPages space.old (λ base. OnOk result
+        (IsAsTold (left_by txn.old base) at.height at.level at.index root.page bytes.new)) }
+    ensures damaged { repairs.ForPagesAbove space.old at.level
+        (λ base below. IfErr result (λ e. IsDamageAt txn.old txn.new base at.height at.level at.index root.page root.span e)) }
+    ensures apart { (below : ℕ) → at.level ≡ suc below
+        → repairs.ForApart space.old txn.old (λ fits stored. and_tree fits stored at.height at.level at.index root.page)
+        (λ base fits stored from mine kept. IfOk result
+        (λ number. StandsApart fits stored (left_by txn.new base) from (told_by txn.new) (and_page number mine)
+        (and_children fits stored at.height below at.index bytes.new 0 kept))) }
+    ensures broken { (below : ℕ) → at.level ≡ suc below
+        → repairs.ForApart space.old txn.old (λ fits stored. and_tree fits stored at.height at.level at.index root.page)
+        (λ base fits stored from mine kept. IfErr result
+        (NamesDamaged stored from (shown.total space.old) (root_level at.height at.level at.index) root.page root.span)) }
     ensures read { root.page ≢ 0 → is_new_root at.height at.level at.index ≡ false → txn.new ≡ txn.old }
-    ensures part { (base : Image) (count : ℕ) (list list' : List (Option ℤ)) (others : List ℕ) (below : ℕ) → AreTold (shown.IsTold space.old) (shown.view space.old) base
+    ensures part { (base : Image) (count : ℕ) (list list' : List (Option ℤ)) (others : List ℕ) (below : ℕ)
+        → AreTold (shown.IsTold space.old) (shown.view space.old) base
         → at.level ≡ suc below → AreSlots list
-        → IsPlaced count (left_by txn.old base) (told_by txn.old) list list' at.height at.level at.index root.page root.span others → (root.page ≡ 0 → is_stored list' at.level at.index ≡ true)
-        → IfOk result (λ number. IsPartWay count (left_by txn.old base) (left_by txn.new base) (told_by txn.new) list list' at.height below at.index number bytes.new (λ child. span_at spans.new (127 + child)) 0 others) }
-    ensures only_faults { (base : Image) (count : ℕ) (list list' : List (Option ℤ)) (others : List ℕ) (below : ℕ) → AreTold (shown.IsTold space.old) (shown.view space.old) base
+        → IsPlaced count (left_by txn.old base) (told_by txn.old) list list' at.height at.level at.index root.page root.span others
+        → (root.page ≡ 0 → is_stored list' at.level at.index ≡ true)
+        → IfOk result (λ number. IsPartWay count (left_by txn.old base) (left_by txn.new base)
+        (told_by txn.new) list list' at.height below at.index number bytes.new (λ child. span_at spans.new (127 + child)) 0 others) }
+    ensures only_faults { (base : Image) (count : ℕ) (list list' : List (Option ℤ)) (others : List ℕ) (below : ℕ)
+        → AreTold (shown.IsTold space.old) (shown.view space.old) base
         → at.level ≡ suc below → AreSlots list
-        → IsPlaced count (left_by txn.old base) (told_by txn.old) list list' at.height at.level at.index root.page root.span others → (root.page ≡ 0 → is_stored list' at.level at.index ≡ true)
+        → IsPlaced count (left_by txn.old base) (told_by txn.old) list list' at.height at.level at.index root.page root.span others
+        → (root.page ≡ 0 → is_stored list' at.level at.index ≡ true)
         → IfErr result (λ e. e ≡ RepairError.DiskFault) }
 {
     if root.page != 0 && !at.is_new_root() {

@@ -1,5 +1,6 @@
 //! A page of a tree is read, and its spans with it.
-ghost use Rattle.std.specs.Prelude.{◌≡◌, ◌<◌, ◌+◌, ◌⊎◌, ℕ, ℤ, suc, Some, Option, List, false, IsTrue, IsSome, IsOk, IfErr, OnOk, OnErr, ◌≢◌};
+ghost use Rattle.std.specs.Prelude.{◌≡◌, ◌<◌, ◌+◌, ◌⊎◌, ℕ, ℤ, suc, Some, Option, List, false, IsTrue, IsSome, IsOk, IfErr, OnOk, OnErr};
+ghost use Rattle.std.specs.Prelude.{◌≢◌};
 ghost use Rattle.block_disk.specs.Blocks.{IsBlock};
 ghost use Rattle.block_disk.specs.View.{Image};
 ghost use Rattle.om3_coeff.specs.Spans.{IsProperIfAny, AreSlots, span};
@@ -41,7 +42,8 @@ pub fn names_within(page: &PageView, total: u32) -> bool
 fn is_page(bytes: &[u8], level: u8, total: u32) -> bool
     requires whole { IsBlock bytes.now }
     ensures form { IsTrue result → IsForm level total bytes.now }
-    ensures sound { KeepsLayout bytes.now → level_at bytes.now ≡ level → ((child : ℕ) → child < 128 → child_at bytes.now child < total) → IsTrue result }
+    ensures sound { KeepsLayout bytes.now → level_at bytes.now ≡ level → ((child : ℕ) → child < 128 → child_at bytes.now child < total)
+        → IsTrue result }
     ensures keeps { IsTrue result → KeepsLayout bytes.now }
     ensures unfit { result ≡ false → IsUnfit total level bytes.now }
 {
@@ -68,10 +70,13 @@ pub(crate) fn read_bytes<P: Pages>(
     ensures quiet_err { IfErr result (λ e. e ≢ RepairError.DiskFault → (shown.view space.new).faults ≡ (shown.view space.old).faults) }
     ensures form { OnOk result (IsForm at.level (shown.total space.old) bytes.new) }
     ensures bytes { repairs.ForPages space.old (λ base. OnOk result (bytes.new ≡ left_by txn.now base page)) }
-    ensures sound { (base : Image) → AreTold (shown.IsTold space.old) (shown.view space.old) base → KeepsLayout (left_by txn.now base page) → level_at (left_by txn.now base page) ≡ at.level
-        → ((child : ℕ) → child < 128 → child_at (left_by txn.now base page) child < shown.total space.old) → IfErr result (λ e. e ≡ RepairError.DiskFault) }
+    ensures sound { (base : Image) → AreTold (shown.IsTold space.old) (shown.view space.old) base → KeepsLayout (left_by txn.now base page)
+        → level_at (left_by txn.now base page) ≡ at.level
+        → ((child : ℕ) → child < 128 → child_at (left_by txn.now base page) child < shown.total space.old)
+        → IfErr result (λ e. e ≡ RepairError.DiskFault) }
     ensures keeps { OnOk result (KeepsLayout bytes.new) }
-    ensures unfit { repairs.ForPages space.old (λ base. IfErr result (λ e. IsUnfitAt (left_by txn.now base) (shown.total space.old) at.level page e)) }
+    ensures unfit { repairs.ForPages space.old (λ base. IfErr result
+        (λ e. IsUnfitAt (left_by txn.now base) (shown.total space.old) at.level page e)) }
 {
     let Ok(()) = space.read(txn, page, bytes) else {
         return Err(RepairError::DiskFault);
@@ -94,9 +99,11 @@ fn spread(
     requires proper { IsProperIfAny root.span }
     ensures form { OnOk result (IsForm level total bytes.now) }
     ensures damaged { IfErr result (λ e. e ≡ RepairError.Damaged root.page) }
-    ensures tops { (list : List (Option ℤ)) (below index : ℕ) → level ≡ suc below → AreSlots list → HoldsNodes list level index bytes.now → root.span ≡ span list (top_of_page level index)
+    ensures tops { (list : List (Option ℤ)) (below index : ℕ) → level ≡ suc below → AreSlots list → HoldsNodes list level index bytes.now
+        → root.span ≡ span list (top_of_page level index)
         → OnOk result (AreTops list below index (λ child. span_at spans.new (127 + child))) }
-    ensures sound { (list : List (Option ℤ)) (below index : ℕ) → level ≡ suc below → AreSlots list → HoldsNodes list level index bytes.now → root.span ≡ span list (top_of_page level index)
+    ensures sound { (list : List (Option ℤ)) (below index : ℕ) → level ≡ suc below → AreSlots list → HoldsNodes list level index bytes.now
+        → root.span ≡ span list (top_of_page level index)
         → IsSome root.span → ((child : ℕ) → child < 128 → child_at bytes.now child < total) → IsOk result }
     ensures keeps { OnOk result (KeepsLayout bytes.now) }
     ensures below { OnOk result (AreBelow root.span bytes.now (span_at spans.new)) }
@@ -143,11 +150,14 @@ pub(crate) fn read_page<P: Pages>(
         → OnOk result (AreTops list below at.index (λ child. span_at spans.new (127 + child))) }
     ensures sound { (base : Image) (list : List (Option ℤ)) (below : ℕ) → AreTold (shown.IsTold space.old) (shown.view space.old) base
         → at.level ≡ suc below → AreSlots list
-        → HoldsNodes list at.level at.index (left_by txn.now base root.page) → root.span ≡ span list (top_of_page at.level at.index) → IsSome root.span
-        → ((child : ℕ) → child < 128 → child_at (left_by txn.now base root.page) child < shown.total space.old) → IfErr result (λ e. e ≡ RepairError.DiskFault) }
+        → HoldsNodes list at.level at.index (left_by txn.now base root.page) → root.span ≡ span list (top_of_page at.level at.index)
+        → IsSome root.span
+        → ((child : ℕ) → child < 128 → child_at (left_by txn.now base root.page) child < shown.total space.old)
+        → IfErr result (λ e. e ≡ RepairError.DiskFault) }
     ensures keeps { OnOk result (KeepsLayout bytes.new) }
     ensures below { OnOk result (AreBelow root.span bytes.new (span_at spans.new)) }
-    ensures bad { repairs.ForPages space.old (λ base. IfErr result (λ e. IsBadAt (left_by txn.now base) (shown.total space.old) at.level root.page root.span e)) }
+    ensures bad { repairs.ForPages space.old (λ base. IfErr result
+        (λ e. IsBadAt (left_by txn.now base) (shown.total space.old) at.level root.page root.span e)) }
 {
     let Ok(()) = space.read(txn, root.page, bytes) else {
         return Err(RepairError::DiskFault);

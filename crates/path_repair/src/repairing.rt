@@ -77,7 +77,8 @@ pub(crate) fn repair<P: Pages>(
     requires proper { IsProperIfAny root.span }
     requires values { (i : ℕ) (value : ℤ) → slice_get values.now i ≡ Some (Some value) → IsValue value }
     requires room { length (held txn.old) + touch slots.first slots.end at.height at.level at.index ≤ 64 }
-    ensures moved { repairs.Moves (touch slots.first slots.end at.height at.level at.index) (touch slots.first slots.end at.height at.level at.index) space.old space.new txn.old txn.new }
+    ensures moved { repairs.Moves (touch slots.first slots.end at.height at.level at.index)
+        (touch slots.first slots.end at.height at.level at.index) space.old space.new txn.old txn.new }
     ensures cause { IfErr result (λ e. repairs.Explains e space.old space.new) }
     ensures quiet { OnOk result ((shown.view space.new).faults ≡ (shown.view space.old).faults) }
     ensures quiet_err { IfErr result (λ e. e ≢ RepairError.DiskFault → (shown.view space.new).faults ≡ (shown.view space.old).faults) }
@@ -85,25 +86,36 @@ pub(crate) fn repair<P: Pages>(
     ensures proper { IfOk result (λ next. IsProperIfAny next.span) }
     ensures root { IfOk result (λ next. IsNewRoot (told_by txn.new).fresh root.page next.page) }
     ensures matched { IfOk result (λ next. 1 ≤ at.level → IsMatched root.page root.span → IsMatched next.page next.span) }
-    ensures spares { repairs.ForPages space.old (λ base. Spares at.level (told_by txn.old).fresh (told_by txn.new).fresh (left_by txn.old base) (left_by txn.new base)) }
-    ensures damaged { repairs.ForPages space.old (λ base. IfErr result (λ e. IsDamageAt txn.old txn.new base at.height at.level at.index root.page root.span e)) }
+    ensures spares { repairs.ForPages space.old (λ base. Spares at.level (told_by txn.old).fresh (told_by txn.new).fresh
+        (left_by txn.old base) (left_by txn.new base)) }
+    ensures damaged { repairs.ForPages space.old (λ base. IfErr result
+        (λ e. IsDamageAt txn.old txn.new base at.height at.level at.index root.page root.span e)) }
     ensures apart { repairs.ForApart space.old txn.old (λ fits stored. and_tree fits stored at.height at.level at.index root.page)
         (λ base fits stored from mine kept. OnOk result (StandsApart fits stored (left_by txn.new base) from (told_by txn.new) mine kept)) }
     // while the pages are apart as they were stored, the damaged one is so as it was stored
     ensures broken { repairs.ForApart space.old txn.old (λ fits stored. and_tree fits stored at.height at.level at.index root.page)
-        (λ base fits stored from mine kept. IfErr result (NamesDamaged stored from (shown.total space.old) (root_level at.height at.level at.index) root.page root.span)) }
-    ensures repaired { (base : Image) (count : ℕ) (list list' : List (Option ℤ)) (others : List ℕ) → AreTold (shown.IsTold space.old) (shown.view space.old) base
-        → AreLists slots.first slots.end values.now list list' → IsPlaced count (left_by txn.old base) (told_by txn.old) list list' at.height at.level at.index root.page root.span others
-        → IfOk result (λ next. IsRepaired count (left_by txn.old base) (left_by txn.new base) (told_by txn.new) list' at.level at.index next.page next.span others) }
-    ensures only_faults { (base : Image) (count : ℕ) (list list' : List (Option ℤ)) (others : List ℕ) → AreTold (shown.IsTold space.old) (shown.view space.old) base
-        → AreLists slots.first slots.end values.now list list' → IsPlaced count (left_by txn.old base) (told_by txn.old) list list' at.height at.level at.index root.page root.span others
+        (λ base fits stored from mine kept. IfErr result
+        (NamesDamaged stored from (shown.total space.old) (root_level at.height at.level at.index) root.page root.span)) }
+    ensures repaired { (base : Image) (count : ℕ) (list list' : List (Option ℤ)) (others : List ℕ)
+        → AreTold (shown.IsTold space.old) (shown.view space.old) base
+        → AreLists slots.first slots.end values.now list list'
+        → IsPlaced count (left_by txn.old base) (told_by txn.old) list list' at.height at.level at.index root.page root.span others
+        → IfOk result (λ next. IsRepaired count (left_by txn.old base) (left_by txn.new base)
+        (told_by txn.new) list' at.level at.index next.page next.span others) }
+    ensures only_faults { (base : Image) (count : ℕ) (list list' : List (Option ℤ)) (others : List ℕ)
+        → AreTold (shown.IsTold space.old) (shown.view space.old) base
+        → AreLists slots.first slots.end values.now list list'
+        → IsPlaced count (left_by txn.old base) (told_by txn.old) list list' at.height at.level at.index root.page root.span others
         → IfErr result (λ e. e ≡ RepairError.DiskFault) }
     // where no slot is told to be changed, none is and nothing is put, and a change that changes none is told so
     ensures was { changed.new ≡ false → changed.old ≡ false }
     ensures kept { changed.new ≡ false → OnOk result (txn.new ≡ txn.old) }
-    ensures same { changed.new ≡ false → OnOk result (ForPlaced (shown.IsTold space.old) (shown.view space.old) txn.old slots.first slots.end values.now at.height at.level at.index root.page root.span
+    ensures same { changed.new ≡ false → OnOk result
+        (ForPlaced (shown.IsTold space.old) (shown.view space.old) txn.old slots.first slots.end values.now at.height at.level at.index
+        root.page root.span
         (λ list list'. AreSame list list' (first_slot (top_of_page at.level at.index)) (end_slot (top_of_page at.level at.index)))) }
-    ensures idle { changed.old ≡ false → ForPlaced (shown.IsTold space.old) (shown.view space.old) txn.old slots.first slots.end values.now at.height at.level at.index root.page root.span
+    ensures idle { changed.old ≡ false → ForPlaced (shown.IsTold space.old)
+        (shown.view space.old) txn.old slots.first slots.end values.now at.height at.level at.index root.page root.span
         (λ list list'. at.level ≤ at.height → list' ≡ list → OnOk result (changed.new ≡ false)) }
 {
     if at.level == 0 {

@@ -11,7 +11,8 @@ use Rattle.plain_chart.specs.Chart.{places, IsChart}
 not_black : (c : Canvas) (x y : ℕ) → black_at c x y ≡ false → IsTrue (black_at c x y) → ⊥
 not_black c x y white black = let t : false ≡ true = sym white ∙ black in cc
 
-pub charted : (g : Grid) (range : ValueRange) (samples : List Sample) (blank drawn : Canvas) (w h : ℕ) → HasCanvas g w h → IsBlank w h blank → Adds (λ x y. InRaster (places g range samples) x (pos y)) blank drawn → IsChart g range samples drawn
+pub charted : (g : Grid) (range : ValueRange) (samples : List Sample) (blank drawn : Canvas) (w h : ℕ) → HasCanvas g w h → IsBlank w h blank
+    → Adds (λ x y. InRaster (places g range samples) x (pos y)) blank drawn → IsChart g range samples drawn
 charted g range samples blank drawn w h canvas is_blank adds = record {
   width = adds.width ∙ is_blank.width ∙ sym canvas.columns;
   height = adds.height ∙ is_blank.height ∙ sym canvas.rows;

@@ -44,10 +44,13 @@ size_down z (suc n) is small = omega (arith, ap unsigned_abs is)
 size_wide : (v lo hi : ℤ) (h : ℕ) → IsValue v → IsValue lo → lo <ℤ hi → h ≤ 4096 → unsigned_abs (height v lo hi h) ≤ 10 ^ 22
 size_wide v lo hi h value low wide rows =
     let bound : distance lo v * (h - 1) ≤ 2 * 10 ^ 18 * 4095 = most v lo h value low rows in
-    let part : distance lo v * (h - 1) / distance lo hi ≤ distance lo v * (h - 1) = div-le_self (distance lo v * (h - 1)) (distance lo hi) in
+    let part : distance lo v * (h - 1) / distance lo hi ≤ distance lo v * (h - 1) = div-le_self (distance lo v * (h - 1))
+    (distance lo hi) in
     by_lt_z v lo
-    (λ below. size_down (height v lo hi h) (div_ceil (distance lo v * (h - 1)) (distance lo hi)) (height-below v lo hi h wide (omega (arith, ints))) (omega (arith, bound, part)))
-    (λ above. size_up (height v lo hi h) (distance lo v * (h - 1) / distance lo hi) (height-above v lo hi h wide above) (omega (arith, bound, part)))
+    (λ below. size_down (height v lo hi h) (div_ceil (distance lo v * (h - 1)) (distance lo hi))
+    (height-below v lo hi h wide (omega (arith, ints))) (omega (arith, bound, part)))
+    (λ above. size_up (height v lo hi h) (distance lo v * (h - 1) / distance lo hi) (height-above v lo hi h wide above)
+    (omega (arith, bound, part)))
 
 -- heights of values stay far within the sizes that a segment takes
 pub height-size : (v lo hi : ℤ) (h : ℕ) → IsValue v → IsValue lo → lo ≤ℤ hi → h ≤ 4096 → unsigned_abs (height v lo hi h) ≤ 10 ^ 22
@@ -57,7 +60,8 @@ height-size v lo hi h value low order rows =
     (λ flat. size_up (height v lo hi h) 0 (height-flat v lo hi h flat) (omega arith))
 
 -- an earlier sample's place isn't further right
-pub placed_before : (g : Grid) (range : ValueRange) (last : Option Sample) (s t : Sample) (p : Point) → last ≡ Some s → ForSome last (IsDrawable g) → IsBefore last t → p ≡ place g range s → p.x ≤ column g t.time
+pub placed_before : (g : Grid) (range : ValueRange) (last : Option Sample) (s t : Sample) (p : Point) → last ≡ Some s
+    → ForSome last (IsDrawable g) → IsBefore last t → p ≡ place g range s → p.x ≤ column g t.time
 placed_before g range last s t p is drawable before at =
     let B : Option Sample → Type 0 = λ o. IsBefore o t in
     let X : Point → Type 0 = λ q. q.x ≤ column g t.time in

@@ -1,5 +1,6 @@
 -- The raster of a list of points, one point more.
-use Rattle.std.proofs.Common.{◌≡◌, ℕ, ℤ, ◌+◌, ◌-◌, ◌*◌, ◌/◌, ◌<◌, ◌≤◌, ◌-ℤ◌, ◌↔◌, ◌⊎◌, inl, inr, List, [], ◌∷◌, ◌++◌, length, get_or, Option, None, Some, sym, ap, subst, ◌∙◌, refl, arith, length-append}
+use Rattle.std.proofs.Common.{◌≡◌, ℕ, ℤ, ◌+◌, ◌-◌, ◌*◌, ◌/◌, ◌<◌, ◌≤◌, ◌-ℤ◌, ◌↔◌, ◌⊎◌, inl, inr, List, [], ◌∷◌, ◌++◌, length, get_or}
+use Rattle.std.proofs.Common.{Option, None, Some, sym, ap, subst, ◌∙◌, refl, arith, length-append}
 use Rattle.std.proofs.Math.ListN.{get_or-append}
 use Rattle.std.proofs.Math.Seq.{get_or-append_seam}
 use Rattle.std.proofs.lemmas.Int.{ints}
@@ -58,7 +59,15 @@ end_dot p q order no_columns none x y at =
 
 -- the segment from a point to itself is the point
 pub on_itself : (p : Point) (x : ℕ) (y : ℤ) → On p p x y ↔ IsAt p x y
-on_itself p x y = (λ on. there on, λ at. inl (record { no_columns = omega arith; no_rows = omega (arith, ints); column = at.column; row = at.row }))
+on_itself p x y = (
+  λ on. there on,
+  λ at. inl (record {
+    no_columns = omega arith;
+    no_rows = omega (arith, ints);
+    column = at.column;
+    row = at.row;
+  }),
+)
   where
     there : On p p x y → IsAt p x y
     there (inl dot) = record { column = dot.column; row = dot.row }
@@ -77,7 +86,8 @@ on_end p q order x y at =
     ]
 
 -- an element of the list with one more is an old one or that one
-in_more : (ps : List Point) (q r : Point) (i : ℕ) → slice_get (ps ++ q ∷ []) i ≡ Some r → ((i < length ps) × (slice_get ps i ≡ Some r)) ⊎ ((i ≡ length ps) × (r ≡ q))
+in_more : (ps : List Point) (q r : Point) (i : ℕ) → slice_get (ps ++ q ∷ []) i ≡ Some r
+    → ((i < length ps) × (slice_get ps i ≡ Some r)) ⊎ ((i ≡ length ps) × (r ≡ q))
 in_more ps q r i is =
     let within : i < length (ps ++ q ∷ []) = slice_get_within (ps ++ q ∷ []) i r is in
     let here : get_or (ps ++ q ∷ []) i r ≡ r = get_or_from_slice_get (ps ++ q ∷ []) i r r is in
@@ -100,11 +110,13 @@ new_in_more ps q =
     let more : length ps < length (ps ++ q ∷ []) = omega (arith, length-append ps (q ∷ [])) in
     slice_get-get_or (ps ++ q ∷ []) (length ps) q more ∙ ap Some (get_or-append_seam ps q [] q)
 
-from_point : (ps : List Point) (q : Point) (last : Option Point) → ((p : Point) → last ≡ Some p → p.x ≤ q.x) → (x : ℕ) (y : ℤ) → IsAt q x y → OnFrom last q x y
+from_point : (ps : List Point) (q : Point) (last : Option Point) → ((p : Point) → last ≡ Some p → p.x ≤ q.x) → (x : ℕ) (y : ℤ) → IsAt q x y
+    → OnFrom last q x y
 from_point ps q None order x y at = at
 from_point ps q (Some p) order x y at = on_end p q (order p refl) x y at
 
-more_point : (ps : List Point) (q : Point) (last : Option Point) → ((p : Point) → last ≡ Some p → p.x ≤ q.x) → (x : ℕ) (y : ℤ) → IsPoint (ps ++ q ∷ []) x y → InRaster ps x y ⊎ OnFrom last q x y
+more_point : (ps : List Point) (q : Point) (last : Option Point) → ((p : Point) → last ≡ Some p → p.x ≤ q.x) → (x : ℕ) (y : ℤ)
+    → IsPoint (ps ++ q ∷ []) x y → InRaster ps x y ⊎ OnFrom last q x y
 more_point ps q last order x y h =
     elim (in_more ps q h.point h.position h.here) [
       | inl old ↦ inl (inl (record { position = h.position; point = h.point; here = old.1; pixel = h.pixel }))
@@ -113,11 +125,19 @@ more_point ps q last order x y h =
           inr (from_point ps q last order x y (subst P new.1 h.pixel))
     ]
 
-more_between : (ps : List Point) (q : Point) (last : Option Point) → last ≡ last_of ps → (x : ℕ) (y : ℤ) → IsBetween (ps ++ q ∷ []) x y → InRaster ps x y ⊎ OnFrom last q x y
+more_between : (ps : List Point) (q : Point) (last : Option Point) → last ≡ last_of ps → (x : ℕ) (y : ℤ) → IsBetween (ps ++ q ∷ []) x y
+    → InRaster ps x y ⊎ OnFrom last q x y
 more_between ps q last is x y h =
     elim (in_more ps q h.second (h.position + 1) h.next) [
       | inl old ↦ elim (in_more ps q h.first h.position h.here) [
-        | inl first ↦ inl (inr (record { position = h.position; first = h.first; second = h.second; here = first.1; next = old.1; pixel = h.pixel }))
+        | inl first ↦ inl (inr (record {
+          position = h.position;
+          first = h.first;
+          second = h.second;
+          here = first.1;
+          next = old.1;
+          pixel = h.pixel;
+        }))
         | inr none ↦ absurd (omega (arith, old.0, none.0))
       ]
       | inr new ↦ elim (in_more ps q h.first h.position h.here) [
@@ -131,7 +151,8 @@ more_between ps q last is x y h =
       ]
     ]
 
-from_last : (ps : List Point) (q : Point) (last : Option Point) → last ≡ last_of ps → (x : ℕ) (y : ℤ) → OnFrom last q x y → InRaster (ps ++ q ∷ []) x y
+from_last : (ps : List Point) (q : Point) (last : Option Point) → last ≡ last_of ps → (x : ℕ) (y : ℤ) → OnFrom last q x y
+    → InRaster (ps ++ q ∷ []) x y
 from_last ps q None is x y at = inl (record { position = length ps; point = q; here = new_in_more ps q; pixel = at })
 from_last ps q (Some p) is x y on =
     let within : length ps - 1 < length ps = slice_get_within ps (length ps - 1) p (sym is) in
@@ -147,7 +168,12 @@ from_last ps q (Some p) is x y on =
     })
 
 in_old : (ps : List Point) (q : Point) (x : ℕ) (y : ℤ) → InRaster ps x y → InRaster (ps ++ q ∷ []) x y
-in_old ps q x y (inl h) = inl (record { position = h.position; point = h.point; here = old_in_more ps q h.point h.position h.here; pixel = h.pixel })
+in_old ps q x y (inl h) = inl (record {
+  position = h.position;
+  point = h.point;
+  here = old_in_more ps q h.point h.position h.here;
+  pixel = h.pixel;
+})
 in_old ps q x y (inr h) =
     inr (record {
       position = h.position;
@@ -159,7 +185,8 @@ in_old ps q x y (inr h) =
     })
 
 -- the raster of one point more is the raster so far and the segment to that point
-pub raster_more : (ps : List Point) (q : Point) (last : Option Point) → last ≡ last_of ps → ((p : Point) → last ≡ Some p → p.x ≤ q.x) → (x : ℕ) (y : ℤ) → (InRaster ps x y ⊎ OnFrom last q x y) ↔ InRaster (ps ++ q ∷ []) x y
+pub raster_more : (ps : List Point) (q : Point) (last : Option Point) → last ≡ last_of ps → ((p : Point) → last ≡ Some p → p.x ≤ q.x)
+    → (x : ℕ) (y : ℤ) → (InRaster ps x y ⊎ OnFrom last q x y) ↔ InRaster (ps ++ q ∷ []) x y
 raster_more ps q last is order x y = (
   (λ h. elim h [ inl old ↦ in_old ps q x y old | inr next ↦ from_last ps q last is x y next ]),
   (λ h. elim h [ inl point ↦ more_point ps q last order x y point | inr between ↦ more_between ps q last is x y between ]),

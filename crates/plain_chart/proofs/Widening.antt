@@ -1,5 +1,6 @@
 -- A range, one value more.
-use Rattle.std.proofs.Common.{◌≡◌, ℤ, pos, ◌≤ℤ◌, zero, suc, List, [], ◌∷◌, ◌++◌, length, get_or, Option, None, Some, subst, sym, ap, refl, arith, ◌⊎◌, inl, inr}
+use Rattle.std.proofs.Common.{◌≡◌, ℤ, pos, ◌≤ℤ◌, zero, suc, List, [], ◌∷◌, ◌++◌, length, get_or, Option, None, Some, subst, sym, ap, refl}
+use Rattle.std.proofs.Common.{arith, ◌⊎◌, inl, inr}
 use Rattle.std.proofs.lemmas.Int.{ints}
 use Rattle.std.specs.Prelude.{All, Contains, unwrap_or}
 use Rattle.std.specs.Int.{int_min, int_max}
@@ -42,7 +43,8 @@ either_in vs v w m old is =
     let P : ℤ → Type 0 = λ z. Contains (vs ++ v ∷ []) z in
     elim is [ inl left ↦ subst P (sym left) (Contains-append_left vs (v ∷ []) w old) | inr right ↦ subst P (sym right) (last vs v) ]
 
-pub spans_more : (vs : List ℤ) (v : ℤ) (r j : ValueRange) → j.lo ≡ int_min r.lo v → j.hi ≡ int_max r.hi v → Spans vs r → Spans (vs ++ v ∷ []) j
+pub spans_more : (vs : List ℤ) (v : ℤ) (r j : ValueRange) → j.lo ≡ int_min r.lo v → j.hi ≡ int_max r.hi v → Spans vs r
+    → Spans (vs ++ v ∷ []) j
 spans_more vs v r j low high s =
     let L : ℤ → Type 0 = λ z. Contains (vs ++ v ∷ []) z in
     let B : ℤ → Type 0 = λ z. All (λ w. z ≤ℤ w) (vs ++ v ∷ []) in
@@ -59,7 +61,8 @@ spans_more vs v r j low high s =
     }
 
 -- the range of the values so far is their range, and a range is in order
-pub range_is : (vs : List ℤ) (r : Option ValueRange) (zero : ValueRange) → zero.lo ≡ pos 0 → zero.hi ≡ pos 0 → SpansSoFar r vs → IsRange vs (unwrap_or r zero)
+pub range_is : (vs : List ℤ) (r : Option ValueRange) (zero : ValueRange) → zero.lo ≡ pos 0 → zero.hi ≡ pos 0 → SpansSoFar r vs
+    → IsRange vs (unwrap_or r zero)
 range_is [] None none low high so = (low, high)
 range_is [] (Some r) none low high so = absurd (omega (arith, so.least.1))
 range_is (v ∷ vs) None none low high so = absurd (omega (arith, ap length so))
@@ -79,7 +82,9 @@ range_holds P (v ∷ vs) r is none all =
     (subst P is.least.2 (all is.least.0 r.lo is.least.1), subst P is.greatest.2 (all is.greatest.0 r.hi is.greatest.1))
 
 -- a sample more, where there is one
-pub so_far_sample : (r : Option ValueRange) (o : Option Sample) (range : ValueRange) (s : Sample) (j : ValueRange) → r ≡ Some range → o ≡ Some s → j.lo ≡ int_min range.lo s.value → j.hi ≡ int_max range.hi s.value → (vs : List ℤ) → SpansSoFar r vs → Spans (vs ++ values_of (option_to_list o)) j
+pub so_far_sample : (r : Option ValueRange) (o : Option Sample) (range : ValueRange) (s : Sample) (j : ValueRange) → r ≡ Some range
+    → o ≡ Some s → j.lo ≡ int_min range.lo s.value → j.hi ≡ int_max range.hi s.value → (vs : List ℤ) → SpansSoFar r vs
+    → Spans (vs ++ values_of (option_to_list o)) j
 so_far_sample r o range s j r_is o_is low high vs so =
     let R : Option ValueRange → Type 0 = λ x. SpansSoFar x vs in
     let O : Option Sample → Type 0 = λ x. Spans (vs ++ values_of (option_to_list x)) j in

@@ -1,5 +1,6 @@
 -- The samples of a series that a view keeps.
-use Rattle.std.specs.Prelude.{◌≡◌, ℕ, ℤ, pos, ◌^◌, ◌≤◌, ◌≤ℤ◌, Bool, ◌&&◌, int_lt, int_le, if◌then◌else◌, List, [], ◌∷◌, map, All, Contains, Option, None, Some, ⊤}
+use Rattle.std.specs.Prelude.{◌≡◌, ℕ, ℤ, pos, ◌^◌, ◌≤◌, ◌≤ℤ◌, Bool, ◌&&◌, int_lt, int_le, if◌then◌else◌, List, [], ◌∷◌, map, All, Contains}
+use Rattle.std.specs.Prelude.{Option, None, Some, ⊤}
 use Rattle.std.specs.List.{enumerate_from, filter_map}
 use Rattle.chart_grid.specs.Slots.{slot_time}
 use Rattle.whole_number.specs.Range.{IsValue}

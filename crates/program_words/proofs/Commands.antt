@@ -1,5 +1,6 @@
 -- Where words are those of a command, and where the first wrong one is.
-use Rattle.std.proofs.Common.{◌≡◌, ℕ, zero, suc, ◌<◌, ◌≤◌, ◌^◌, List, [], ◌∷◌, length, length-take, take, Option, Some, refl, ap, sym, subst, ◌∙◌, arith}
+use Rattle.std.proofs.Common.{◌≡◌, ℕ, zero, suc, ◌<◌, ◌≤◌, ◌^◌, List, [], ◌∷◌, length, length-take, take, Option, Some, refl, ap, sym}
+use Rattle.std.proofs.Common.{subst, ◌∙◌, arith}
 use Rattle.std.specs.Prelude.{slice_get, codes, min, Bool, true, false, not, IsTrue, if◌then◌else◌, None, Result, Ok, Err}
 use Rattle.std.specs.Str.Parse.{ParsesUnsigned}
 use Rattle.std.proofs.lemmas.Fmt.{parse-decimal}
@@ -13,7 +14,8 @@ use Rattle.series_book.specs.declared.errors.NameError.TheVariants.{NotAName, No
 use Rattle.whole_number.specs.Spelling.{SpellsNatural}
 use Rattle.whole_number.proofs.Digits.{one_natural}
 use Rattle.program_words.specs.declared.words.Command.{Command}
-use Rattle.program_words.specs.declared.words.Command.TheVariants.{Plot, Load, Demo, Run, Serve, Draw, Init, Check, ListSeries, Export, Retain, Cover, Live, Host, Derive}
+use Rattle.program_words.specs.declared.words.Command.TheVariants.{Plot, Load, Demo, Run, Serve, Draw, Init, Check, ListSeries, Export}
+use Rattle.program_words.specs.declared.words.Command.TheVariants.{Retain, Cover, Live, Host, Derive}
 use Rattle.program_words.specs.declared.words.WordsEnd.{WordsEnd}
 use Rattle.program_words.specs.declared.words.WordsEnd.TheVariants.{Wrong, NoMemory as AtMemory}
 use Rattle.program_words.specs.Words.{Spells, IsEvery, Begins, IsWrongAt, IsWrongBy, IsSingle, HasNoName, HasNoSeed, word_of}
@@ -31,7 +33,8 @@ first_two [] a b is next = cc
 first_two (x ∷ []) a b is next = cc
 first_two (x ∷ (y ∷ ws)) a b is next = cc
 
-pub first_three : {X : Type 0} (ws : List X) (a b c : X) → slice_get ws 0 ≡ Some a → slice_get ws 1 ≡ Some b → slice_get ws 2 ≡ Some c → take 3 ws ≡ a ∷ b ∷ c ∷ []
+pub first_three : {X : Type 0} (ws : List X) (a b c : X) → slice_get ws 0 ≡ Some a → slice_get ws 1 ≡ Some b → slice_get ws 2 ≡ Some c
+    → take 3 ws ≡ a ∷ b ∷ c ∷ []
 first_three [] a b c is next third = cc
 first_three (x ∷ []) a b c is next third = cc
 first_three (x ∷ (y ∷ [])) a b c is next third = cc
@@ -175,9 +178,11 @@ first_of_spelling spelling Derive spells = ap (λ l. slice_get l 0) spells
 first_of_spelling spelling (Export name window) spells = ap (λ l. slice_get l 0) spells.0
 
 -- two commands whose spellings begin with one word have one number
-pub one_number : (spelling : List (List ℕ)) (command other : Command) → Spells other spelling → slice_get spelling 0 ≡ Some (word_of command) → number_of other ≡ number_of command
+pub one_number : (spelling : List (List ℕ)) (command other : Command) → Spells other spelling
+    → slice_get spelling 0 ≡ Some (word_of command) → number_of other ≡ number_of command
 one_number spelling command other spells first =
-    sym (number_so other) ∙ ap number_by (inside (slice_get spelling 0) (word_of other) (word_of command) (first_of_spelling spelling other spells) first) ∙ number_so command
+    sym (number_so other) ∙ ap number_by (inside (slice_get spelling 0) (word_of other) (word_of command)
+    (first_of_spelling spelling other spells) first) ∙ number_so command
 
 -- the commands of this word have two operands, of these kinds; there are words of each kind
 record HasTwo (word : List ℕ) (First Second : List ℕ → Type 0) : Type 0 where
@@ -194,34 +199,41 @@ record HasOne (word : List ℕ) (First : List ℕ → Type 0) : Type 0 where
       → (a : List ℕ) × First a × (spelling ≡ word ∷ a ∷ [])
   some_first : (a : List ℕ) × First a
 
-pub begins : (count : ℕ) (words spelling : List (List ℕ)) (made : (command : Command) × Spells command spelling) → take count words ≡ take count spelling → Begins count words
+pub begins : (count : ℕ) (words spelling : List (List ℕ)) (made : (command : Command) × Spells command spelling)
+    → take count words ≡ take count spelling → Begins count words
 begins count words spelling made same = record { command = made.0; spelling = spelling; spells = made.1; same = same }
 
 -- the first words are those of a command with this first word
-pub first_there : (count : ℕ) (word : List ℕ) (words : List (List ℕ)) (b : Begins count words) → 0 < count → slice_get words 0 ≡ Some word → slice_get b.spelling 0 ≡ Some word
+pub first_there : (count : ℕ) (word : List ℕ) (words : List (List ℕ)) (b : Begins count words) → 0 < count → slice_get words 0 ≡ Some word
+    → slice_get b.spelling 0 ≡ Some word
 first_there count word words b some first = sym (same_first count words b.spelling some b.same) ∙ first
 
 -- ---- two operands
 
-two_wrong_first : (word : List ℕ) (First Second : List ℕ → Type 0) → HasTwo word First Second → (words : List (List ℕ)) → slice_get words 0 ≡ Some word
+two_wrong_first : (word : List ℕ) (First Second : List ℕ → Type 0) → HasTwo word First Second → (words : List (List ℕ))
+    → slice_get words 0 ≡ Some word
     → ((a : List ℕ) → First a → slice_get words 1 ≡ Some a → ⊥) → IsWrongAt 1 words
 two_wrong_first word First Second has words first none = record {
-  before = begins 1 words (word ∷ has.some_first.0 ∷ has.some_second.0 ∷ []) (has.make has.some_first.0 has.some_second.0 has.some_first.1 has.some_second.1) (first_one words word first);
+  before = begins 1 words (word ∷ has.some_first.0 ∷ has.some_second.0 ∷ [])
+      (has.make has.some_first.0 has.some_second.0 has.some_first.1 has.some_second.1) (first_one words word first);
   here = λ b.
       let o = has.only b.command b.spelling b.spells (first_there 2 word words b (omega arith) first) in
       none o.0 o.2 (same_second 2 words b.spelling (omega arith) b.same ∙ ap (λ l. slice_get l 1) o.4);
 }
 
-two_wrong_second : (word : List ℕ) (First Second : List ℕ → Type 0) → HasTwo word First Second → (words : List (List ℕ)) (a : List ℕ) → First a → slice_get words 0 ≡ Some word → slice_get words 1 ≡ Some a
+two_wrong_second : (word : List ℕ) (First Second : List ℕ → Type 0) → HasTwo word First Second → (words : List (List ℕ)) (a : List ℕ)
+    → First a → slice_get words 0 ≡ Some word → slice_get words 1 ≡ Some a
     → ((b : List ℕ) → Second b → slice_get words 2 ≡ Some b → ⊥) → IsWrongAt 2 words
 two_wrong_second word First Second has words a is first second none = record {
-  before = begins 2 words (word ∷ a ∷ has.some_second.0 ∷ []) (has.make a has.some_second.0 is has.some_second.1) (first_two words word a first second);
+  before = begins 2 words (word ∷ a ∷ has.some_second.0 ∷ []) (has.make a has.some_second.0 is has.some_second.1)
+      (first_two words word a first second);
   here = λ b.
       let o = has.only b.command b.spelling b.spells (first_there 3 word words b (omega arith) first) in
       none o.1 o.3 (same_third 3 words b.spelling (omega arith) b.same ∙ ap (λ l. slice_get l 2) o.4);
 }
 
-two_too_many : (word : List ℕ) (First Second : List ℕ → Type 0) → HasTwo word First Second → (words : List (List ℕ)) (a b : List ℕ) → First a → Second b → slice_get words 0 ≡ Some word → slice_get words 1 ≡ Some a
+two_too_many : (word : List ℕ) (First Second : List ℕ → Type 0) → HasTwo word First Second → (words : List (List ℕ)) (a b : List ℕ)
+    → First a → Second b → slice_get words 0 ≡ Some word → slice_get words 1 ≡ Some a
     → slice_get words 2 ≡ Some b → 3 < length words → IsWrongAt 3 words
 two_too_many word First Second has words a b is next first second third many = record {
   before = begins 3 words (word ∷ a ∷ b ∷ []) (has.make a b is next) (first_three words word a b first second third);
@@ -232,7 +244,8 @@ two_too_many word First Second has words a b is next first second third many = r
       omega (arith, few, many);
 }
 
-two_right : (word : List ℕ) (words : List (List ℕ)) (a b : List ℕ) → slice_get words 0 ≡ Some word → slice_get words 1 ≡ Some a → slice_get words 2 ≡ Some b → length words ≤ 3 → words ≡ word ∷ a ∷ b ∷ []
+two_right : (word : List ℕ) (words : List (List ℕ)) (a b : List ℕ) → slice_get words 0 ≡ Some word → slice_get words 1 ≡ Some a
+    → slice_get words 2 ≡ Some b → length words ≤ 3 → words ≡ word ∷ a ∷ b ∷ []
 two_right word words a b first second third few = sym (all_three words few) ∙ first_three words word a b first second third
 
 -- ---- one operand
@@ -246,7 +259,8 @@ one_wrong_first word First has words first none = record {
       none o.0 o.1 (same_second 2 words b.spelling (omega arith) b.same ∙ ap (λ l. slice_get l 1) o.2);
 }
 
-one_too_many : (word : List ℕ) (First : List ℕ → Type 0) → HasOne word First → (words : List (List ℕ)) (a : List ℕ) → First a → slice_get words 0 ≡ Some word → slice_get words 1 ≡ Some a
+one_too_many : (word : List ℕ) (First : List ℕ → Type 0) → HasOne word First → (words : List (List ℕ)) (a : List ℕ) → First a
+    → slice_get words 0 ≡ Some word → slice_get words 1 ≡ Some a
     → 2 < length words → IsWrongAt 2 words
 one_too_many word First has words a is first second many = record {
   before = begins 2 words (word ∷ a ∷ []) (has.make a is) (first_two words word a first second);
@@ -269,29 +283,50 @@ only_plot command spelling spells number = absurd (omega (arith, number))
 
 plots : HasTwo (codes "plot") IsSideWord IsSideWord
 plots = record {
-  make = λ a b w h. (Plot w.0 h.0, ((let P : List ℕ → Type 0 = λ x. codes "plot" ∷ a ∷ b ∷ [] ≡ codes "plot" ∷ x ∷ decimal h.0 ∷ [] in let Q : List ℕ → Type 0 = λ y. codes "plot" ∷ a ∷ b ∷ [] ≡ codes "plot" ∷ a ∷ y ∷ [] in subst P w.2 (subst Q h.2 refl)), w.1, h.1));
+  make = λ a b w h. (
+    Plot w.0 h.0,
+    (
+      (let P : List ℕ → Type 0 = λ x. codes "plot" ∷ a ∷ b ∷ [] ≡ codes "plot" ∷ x ∷ decimal h.0 ∷ [] in
+          let Q : List ℕ → Type 0 = λ y. codes "plot" ∷ a ∷ b ∷ [] ≡ codes "plot" ∷ a ∷ y ∷ [] in subst P w.2 (subst Q h.2 refl)),
+      w.1,
+      h.1,
+    ),
+  );
   only = λ command spelling spells first. only_plot command spelling spells (one_number spelling (Plot 1 1) command spells first);
   some_first = (decimal 1, (1, one, refl));
   some_second = (decimal 1, (1, one, refl));
 }
 
-side_none : (words : List (List ℕ)) (place : ℕ) → ((side : ℕ) → IsSide side → slice_get words place ≡ Some (decimal side) → ⊥) → (a : List ℕ) → IsSideWord a → slice_get words place ≡ Some a → ⊥
+side_none : (words : List (List ℕ)) (place : ℕ) → ((side : ℕ) → IsSide side → slice_get words place ≡ Some (decimal side) → ⊥)
+    → (a : List ℕ) → IsSideWord a → slice_get words place ≡ Some a → ⊥
 side_none words place none a is there = none is.0 is.1 (there ∙ ap Some is.2)
 
 -- the width, or the height, is missing or wrong
-pub wrong_second : (words : List (List ℕ)) → slice_get words 0 ≡ Some (codes "plot") → ((side : ℕ) → IsSide side → slice_get words 1 ≡ Some (decimal side) → ⊥) → IsWrongAt 1 words
+pub wrong_second : (words : List (List ℕ)) → slice_get words 0 ≡ Some (codes "plot")
+    → ((side : ℕ) → IsSide side → slice_get words 1 ≡ Some (decimal side) → ⊥) → IsWrongAt 1 words
 wrong_second words first none = two_wrong_first (codes "plot") IsSideWord IsSideWord plots words first (side_none words 1 none)
 
-pub wrong_third : (words : List (List ℕ)) (w : ℕ) → IsSide w → slice_get words 0 ≡ Some (codes "plot") → slice_get words 1 ≡ Some (decimal w) → ((side : ℕ) → IsSide side → slice_get words 2 ≡ Some (decimal side) → ⊥) → IsWrongAt 2 words
-wrong_third words w wide first second none = two_wrong_second (codes "plot") IsSideWord IsSideWord plots words (decimal w) (w, wide, refl) first second (side_none words 2 none)
+pub wrong_third : (words : List (List ℕ)) (w : ℕ) → IsSide w → slice_get words 0 ≡ Some (codes "plot")
+    → slice_get words 1 ≡ Some (decimal w) → ((side : ℕ) → IsSide side → slice_get words 2 ≡ Some (decimal side) → ⊥) → IsWrongAt 2 words
+wrong_third words w wide first second none = two_wrong_second (codes "plot") IsSideWord IsSideWord plots words (decimal w) (
+  w,
+  wide,
+  refl,
+) first second (side_none words 2 none)
 
 -- there is a word too many
-pub wrong_fourth : (words : List (List ℕ)) (w h : ℕ) → IsSide w → IsSide h → slice_get words 0 ≡ Some (codes "plot") → slice_get words 1 ≡ Some (decimal w) → slice_get words 2 ≡ Some (decimal h) → 3 < length words → IsWrongAt 3 words
+pub wrong_fourth : (words : List (List ℕ)) (w h : ℕ) → IsSide w → IsSide h → slice_get words 0 ≡ Some (codes "plot")
+    → slice_get words 1 ≡ Some (decimal w) → slice_get words 2 ≡ Some (decimal h) → 3 < length words → IsWrongAt 3 words
 wrong_fourth words w h wide high first second third many =
-    two_too_many (codes "plot") IsSideWord IsSideWord plots words (decimal w) (decimal h) (w, wide, refl) (h, high, refl) first second third many
+    two_too_many (codes "plot") IsSideWord IsSideWord plots words (decimal w) (decimal h) (w, wide, refl) (
+      h,
+      high,
+      refl,
+    ) first second third many
 
 -- these are the words of a command
-pub right : (words : List (List ℕ)) (w h : ℕ) → slice_get words 0 ≡ Some (codes "plot") → slice_get words 1 ≡ Some (decimal w) → slice_get words 2 ≡ Some (decimal h) → length words ≤ 3 → words ≡ codes "plot" ∷ decimal w ∷ decimal h ∷ []
+pub right : (words : List (List ℕ)) (w h : ℕ) → slice_get words 0 ≡ Some (codes "plot") → slice_get words 1 ≡ Some (decimal w)
+    → slice_get words 2 ≡ Some (decimal h) → length words ≤ 3 → words ≡ codes "plot" ∷ decimal w ∷ decimal h ∷ []
 right words w h first second third few = two_right (codes "plot") words (decimal w) (decimal h) first second third few
 
 -- ---- workloads
@@ -301,29 +336,57 @@ IsSeedWord word = (seed : ℕ) × (seed < 2 ^ 64) × (word ≡ decimal seed)
 
 only_demo : (command : Command) (spelling : List (List ℕ)) → Spells command spelling → number_of command ≡ 2
     → (a : List ℕ) × (b : List ℕ) × IsSeedWord a × IsSideWord b × (spelling ≡ codes "demo" ∷ a ∷ b ∷ [])
-only_demo (Demo seed count) spelling spells number = (decimal seed, decimal count, (seed, spells.1, refl), (count, spells.2, refl), spells.0)
+only_demo (Demo seed count) spelling spells number = (
+  decimal seed,
+  decimal count,
+  (seed, spells.1, refl),
+  (count, spells.2, refl),
+  spells.0,
+)
 only_demo command spelling spells number = absurd (omega (arith, number))
 
 demos : HasTwo (codes "demo") IsSeedWord IsSideWord
 demos = record {
-  make = λ a b s n. (Demo s.0 n.0, ((let P : List ℕ → Type 0 = λ x. codes "demo" ∷ a ∷ b ∷ [] ≡ codes "demo" ∷ x ∷ decimal n.0 ∷ [] in let Q : List ℕ → Type 0 = λ y. codes "demo" ∷ a ∷ b ∷ [] ≡ codes "demo" ∷ a ∷ y ∷ [] in subst P s.2 (subst Q n.2 refl)), s.1, n.1));
+  make = λ a b s n. (
+    Demo s.0 n.0,
+    (
+      (let P : List ℕ → Type 0 = λ x. codes "demo" ∷ a ∷ b ∷ [] ≡ codes "demo" ∷ x ∷ decimal n.0 ∷ [] in
+          let Q : List ℕ → Type 0 = λ y. codes "demo" ∷ a ∷ b ∷ [] ≡ codes "demo" ∷ a ∷ y ∷ [] in subst P s.2 (subst Q n.2 refl)),
+      s.1,
+      n.1,
+    ),
+  );
   only = λ command spelling spells first. only_demo command spelling spells (one_number spelling (Demo 1 1) command spells first);
   some_first = (decimal 1, (1, omega arith, refl));
   some_second = (decimal 1, (1, one, refl));
 }
 
 -- the seed, or the number of rounds, is missing or wrong
-pub wrong_seed : (words : List (List ℕ)) → slice_get words 0 ≡ Some (codes "demo") → ((seed : ℕ) → seed < 2 ^ 64 → slice_get words 1 ≡ Some (decimal seed) → ⊥) → IsWrongAt 1 words
-wrong_seed words first none = two_wrong_first (codes "demo") IsSeedWord IsSideWord demos words first (λ a is there. none is.0 is.1 (there ∙ ap Some is.2))
+pub wrong_seed : (words : List (List ℕ)) → slice_get words 0 ≡ Some (codes "demo")
+    → ((seed : ℕ) → seed < 2 ^ 64 → slice_get words 1 ≡ Some (decimal seed) → ⊥) → IsWrongAt 1 words
+wrong_seed words first none = two_wrong_first (codes "demo") IsSeedWord IsSideWord demos words first
+    (λ a is there. none is.0 is.1 (there ∙ ap Some is.2))
 
-pub wrong_rounds : (words : List (List ℕ)) (seed : ℕ) → seed < 2 ^ 64 → slice_get words 0 ≡ Some (codes "demo") → slice_get words 1 ≡ Some (decimal seed) → ((side : ℕ) → IsSide side → slice_get words 2 ≡ Some (decimal side) → ⊥) → IsWrongAt 2 words
-wrong_rounds words seed small first second none = two_wrong_second (codes "demo") IsSeedWord IsSideWord demos words (decimal seed) (seed, small, refl) first second (side_none words 2 none)
+pub wrong_rounds : (words : List (List ℕ)) (seed : ℕ) → seed < 2 ^ 64 → slice_get words 0 ≡ Some (codes "demo")
+    → slice_get words 1 ≡ Some (decimal seed) → ((side : ℕ) → IsSide side → slice_get words 2 ≡ Some (decimal side) → ⊥) → IsWrongAt 2 words
+wrong_rounds words seed small first second none = two_wrong_second (codes "demo") IsSeedWord IsSideWord demos words (decimal seed) (
+  seed,
+  small,
+  refl,
+) first second (side_none words 2 none)
 
-pub wrong_behind_rounds : (words : List (List ℕ)) (seed count : ℕ) → seed < 2 ^ 64 → IsSide count → slice_get words 0 ≡ Some (codes "demo") → slice_get words 1 ≡ Some (decimal seed) → slice_get words 2 ≡ Some (decimal count) → 3 < length words → IsWrongAt 3 words
+pub wrong_behind_rounds : (words : List (List ℕ)) (seed count : ℕ) → seed < 2 ^ 64 → IsSide count → slice_get words 0 ≡ Some (codes "demo")
+    → slice_get words 1 ≡ Some (decimal seed) → slice_get words 2 ≡ Some (decimal count) → 3 < length words → IsWrongAt 3 words
 wrong_behind_rounds words seed count small some first second third many =
-    two_too_many (codes "demo") IsSeedWord IsSideWord demos words (decimal seed) (decimal count) (seed, small, refl) (count, some, refl) first second third many
+    two_too_many (codes "demo") IsSeedWord IsSideWord demos words (decimal seed) (decimal count) (seed, small, refl) (
+      count,
+      some,
+      refl,
+    ) first second third many
 
-pub right_demo : (words : List (List ℕ)) (seed count : ℕ) → slice_get words 0 ≡ Some (codes "demo") → slice_get words 1 ≡ Some (decimal seed) → slice_get words 2 ≡ Some (decimal count) → length words ≤ 3 → words ≡ codes "demo" ∷ decimal seed ∷ decimal count ∷ []
+pub right_demo : (words : List (List ℕ)) (seed count : ℕ) → slice_get words 0 ≡ Some (codes "demo")
+    → slice_get words 1 ≡ Some (decimal seed) → slice_get words 2 ≡ Some (decimal count) → length words ≤ 3
+    → words ≡ codes "demo" ∷ decimal seed ∷ decimal count ∷ []
 right_demo words seed count first second third few = two_right (codes "demo") words (decimal seed) (decimal count) first second third few
 
 -- ---- loads
@@ -331,7 +394,8 @@ right_demo words seed count first second third few = two_right (codes "demo") wo
 abbrev IsNameWord : List ℕ → Type 0
 IsNameWord word = IsTrue (is_name word)
 
-only_load : (command : Command) (spelling : List (List ℕ)) → Spells command spelling → number_of command ≡ 1 → (a : List ℕ) × IsNameWord a × (spelling ≡ codes "load" ∷ a ∷ [])
+only_load : (command : Command) (spelling : List (List ℕ)) → Spells command spelling → number_of command ≡ 1
+    → (a : List ℕ) × IsNameWord a × (spelling ≡ codes "load" ∷ a ∷ [])
 only_load (Load name) spelling spells number = (name, spells.1, spells.0)
 only_load command spelling spells number = absurd (omega (arith, number))
 
@@ -347,13 +411,16 @@ loads = record {
 }
 
 -- the name is missing or wrong
-pub wrong_name : (words : List (List ℕ)) → slice_get words 0 ≡ Some (codes "load") → ((name : List ℕ) → IsTrue (is_name name) → slice_get words 1 ≡ Some name → ⊥) → IsWrongAt 1 words
+pub wrong_name : (words : List (List ℕ)) → slice_get words 0 ≡ Some (codes "load")
+    → ((name : List ℕ) → IsTrue (is_name name) → slice_get words 1 ≡ Some name → ⊥) → IsWrongAt 1 words
 wrong_name words first none = one_wrong_first (codes "load") IsNameWord loads words first none
 
-pub wrong_behind_name : (words : List (List ℕ)) (name : List ℕ) → IsTrue (is_name name) → slice_get words 0 ≡ Some (codes "load") → slice_get words 1 ≡ Some name → 2 < length words → IsWrongAt 2 words
+pub wrong_behind_name : (words : List (List ℕ)) (name : List ℕ) → IsTrue (is_name name) → slice_get words 0 ≡ Some (codes "load")
+    → slice_get words 1 ≡ Some name → 2 < length words → IsWrongAt 2 words
 wrong_behind_name words name is first second many = one_too_many (codes "load") IsNameWord loads words name is first second many
 
-pub right_load : (words : List (List ℕ)) (name : List ℕ) → slice_get words 0 ≡ Some (codes "load") → slice_get words 1 ≡ Some name → length words ≤ 2 → words ≡ codes "load" ∷ name ∷ []
+pub right_load : (words : List (List ℕ)) (name : List ℕ) → slice_get words 0 ≡ Some (codes "load") → slice_get words 1 ≡ Some name
+    → length words ≤ 2 → words ≡ codes "load" ∷ name ∷ []
 right_load words name first second few = sym (all_two words few) ∙ first_two words (codes "load") name first second
 
 -- ---- drawings with covers
@@ -361,7 +428,8 @@ right_load words name first second few = sym (all_two words few) ∙ first_two w
 abbrev IsEveryWord : List ℕ → Type 0
 IsEveryWord word = (every : ℕ) × IsEvery every × (word ≡ decimal every)
 
-only_cover : (command : Command) (spelling : List (List ℕ)) → Spells command spelling → number_of command ≡ 4 → (a : List ℕ) × IsEveryWord a × (spelling ≡ codes "cover" ∷ a ∷ [])
+only_cover : (command : Command) (spelling : List (List ℕ)) → Spells command spelling → number_of command ≡ 4
+    → (a : List ℕ) × IsEveryWord a × (spelling ≡ codes "cover" ∷ a ∷ [])
 only_cover (Cover every) spelling spells number = (decimal every, (every, spells.1, refl), spells.0)
 only_cover command spelling spells number = absurd (omega (arith, number))
 
@@ -370,23 +438,38 @@ every_one = record { some = omega arith; most = omega arith }
 
 covers : HasOne (codes "cover") IsEveryWord
 covers = record {
-  make = λ a is. (Cover is.0, ((let P : List ℕ → Type 0 = λ x. codes "cover" ∷ a ∷ [] ≡ codes "cover" ∷ x ∷ [] in subst P is.2 refl), is.1));
+  make = λ a is. (
+    Cover is.0,
+    (
+      (let P : List ℕ → Type 0 = λ x. codes "cover" ∷ a ∷ [] ≡ codes "cover" ∷ x ∷ [] in subst P is.2 refl),
+      is.1,
+    ),
+  );
   only = λ command spelling spells first. only_cover command spelling spells (one_number spelling (Cover 1) command spells first);
   some_first = (decimal 1, (1, every_one, refl));
 }
 
 -- the number is missing or wrong
-pub wrong_every : (words : List (List ℕ)) → slice_get words 0 ≡ Some (codes "cover") → ((every : ℕ) → IsEvery every → slice_get words 1 ≡ Some (decimal every) → ⊥) → IsWrongAt 1 words
-wrong_every words first none = one_wrong_first (codes "cover") IsEveryWord covers words first (λ a is there. none is.0 is.1 (there ∙ ap Some is.2))
+pub wrong_every : (words : List (List ℕ)) → slice_get words 0 ≡ Some (codes "cover")
+    → ((every : ℕ) → IsEvery every → slice_get words 1 ≡ Some (decimal every) → ⊥) → IsWrongAt 1 words
+wrong_every words first none = one_wrong_first (codes "cover") IsEveryWord covers words first
+    (λ a is there. none is.0 is.1 (there ∙ ap Some is.2))
 
-pub wrong_behind_every : (words : List (List ℕ)) (every : ℕ) → IsEvery every → slice_get words 0 ≡ Some (codes "cover") → slice_get words 1 ≡ Some (decimal every) → 2 < length words → IsWrongAt 2 words
-wrong_behind_every words every is first second many = one_too_many (codes "cover") IsEveryWord covers words (decimal every) (every, is, refl) first second many
+pub wrong_behind_every : (words : List (List ℕ)) (every : ℕ) → IsEvery every → slice_get words 0 ≡ Some (codes "cover")
+    → slice_get words 1 ≡ Some (decimal every) → 2 < length words → IsWrongAt 2 words
+wrong_behind_every words every is first second many = one_too_many (codes "cover") IsEveryWord covers words (decimal every) (
+  every,
+  is,
+  refl,
+) first second many
 
-pub right_cover : (words : List (List ℕ)) (every : ℕ) → slice_get words 0 ≡ Some (codes "cover") → slice_get words 1 ≡ Some (decimal every) → length words ≤ 2 → words ≡ codes "cover" ∷ decimal every ∷ []
+pub right_cover : (words : List (List ℕ)) (every : ℕ) → slice_get words 0 ≡ Some (codes "cover") → slice_get words 1 ≡ Some (decimal every)
+    → length words ≤ 2 → words ≡ codes "cover" ∷ decimal every ∷ []
 right_cover words every first second few = sym (all_two words few) ∙ first_two words (codes "cover") (decimal every) first second
 
 -- a number that is none of these is that of no such word
-pub no_every : (words : List (List ℕ)) (place n : ℕ) (word : List ℕ) → slice_get words place ≡ Some word → SpellsNatural word n → ((1 ≤ n) × (n ≤ 131072) → ⊥) → (every : ℕ) → IsEvery every → slice_get words place ≡ Some (decimal every) → ⊥
+pub no_every : (words : List (List ℕ)) (place n : ℕ) (word : List ℕ) → slice_get words place ≡ Some word → SpellsNatural word n
+    → ((1 ≤ n) × (n ≤ 131072) → ⊥) → (every : ℕ) → IsEvery every → slice_get words place ≡ Some (decimal every) → ⊥
 no_every words place n word here spells off every is there =
     let same : word ≡ decimal every = inside (slice_get words place) word (decimal every) here there in
     let equal : n ≡ every = one_natural word n every spells (same, omega (arith, is.most)) in
@@ -449,7 +532,9 @@ wrong_first words none = record {
 }
 
 -- so it is where it begins none of these
-pub no_command : (first : Option (List ℕ)) → (first ≡ Some (codes "plot") → ⊥) → (first ≡ Some (codes "load") → ⊥) → (first ≡ Some (codes "demo") → ⊥) → (first ≡ Some (codes "export") → ⊥) → (first ≡ Some (codes "cover") → ⊥) → ((command : Command) → IsSingle command → first ≡ Some (word_of command) → ⊥)
+pub no_command : (first : Option (List ℕ)) → (first ≡ Some (codes "plot") → ⊥) → (first ≡ Some (codes "load") → ⊥)
+    → (first ≡ Some (codes "demo") → ⊥) → (first ≡ Some (codes "export") → ⊥) → (first ≡ Some (codes "cover") → ⊥)
+    → ((command : Command) → IsSingle command → first ≡ Some (word_of command) → ⊥)
     → (command : Command) → first ≡ Some (word_of command) → ⊥
 no_command first plot load demo export cover single (Plot w h) is = plot is
 no_command first plot load demo export cover single (Load name) is = load is
@@ -467,7 +552,8 @@ no_command first plot load demo export cover single Derive is = single Derive tt
 no_command first plot load demo export cover single (Cover every) is = cover is
 no_command first plot load demo export cover single (Export name window) is = export is
 
-pub wrong_behind : (words : List (List ℕ)) (command : Command) → IsSingle command → slice_get words 0 ≡ Some (word_of command) → 1 < length words → IsWrongAt 1 words
+pub wrong_behind : (words : List (List ℕ)) (command : Command) → IsSingle command → slice_get words 0 ≡ Some (word_of command)
+    → 1 < length words → IsWrongAt 1 words
 wrong_behind words command is first many = record {
   before = begins 1 words (single command) (command, spells_single command is) (first_one words (word_of command) first);
   here = λ b.
@@ -479,7 +565,8 @@ wrong_behind words command is first many = record {
 }
 
 -- these are the words of a command of one word
-pub right_single : (words : List (List ℕ)) (command : Command) → IsSingle command → slice_get words 0 ≡ Some (word_of command) → length words ≤ 1 → Spells command words
+pub right_single : (words : List (List ℕ)) (command : Command) → IsSingle command → slice_get words 0 ≡ Some (word_of command)
+    → length words ≤ 1 → Spells command words
 right_single words command is first few =
     let S : List (List ℕ) → Type 0 = λ ws. Spells command ws in
     subst S (sym (sym (all_one words few) ∙ first_one words (word_of command) first)) (spells_single command is)
@@ -487,7 +574,8 @@ right_single words command is first few =
 -- ---- numbers
 
 -- a number that is no side is no side's word
-pub no_side : (words : List (List ℕ)) (place n : ℕ) (word : List ℕ) → slice_get words place ≡ Some word → SpellsNatural word n → ((1 ≤ n) × (n ≤ 4096) → ⊥) → (side : ℕ) → IsSide side → slice_get words place ≡ Some (decimal side) → ⊥
+pub no_side : (words : List (List ℕ)) (place n : ℕ) (word : List ℕ) → slice_get words place ≡ Some word → SpellsNatural word n
+    → ((1 ≤ n) × (n ≤ 4096) → ⊥) → (side : ℕ) → IsSide side → slice_get words place ≡ Some (decimal side) → ⊥
 no_side words place n word here spells off side is there =
     let same : word ≡ decimal side = inside (slice_get words place) word (decimal side) here there in
     let equal : n ≡ side = one_natural word n side spells (same, omega (arith, is.most)) in
@@ -502,7 +590,8 @@ refuses : (bytes : List ℕ) (e : NameError) → RefusesName bytes e → e ≡ N
 refuses bytes NotAName refused is = refused
 refuses bytes NoMemory refused is = cc
 
-pub no_name : (words : List (List ℕ)) (place : ℕ) (word : List ℕ) → slice_get words place ≡ Some word → (bytes : List ℕ) → bytes ≡ word → (e : NameError) → RefusesName bytes e → e ≡ NotAName → (name : List ℕ) → IsTrue (is_name name) → slice_get words place ≡ Some name → ⊥
+pub no_name : (words : List (List ℕ)) (place : ℕ) (word : List ℕ) → slice_get words place ≡ Some word → (bytes : List ℕ) → bytes ≡ word
+    → (e : NameError) → RefusesName bytes e → e ≡ NotAName → (name : List ℕ) → IsTrue (is_name name) → slice_get words place ≡ Some name → ⊥
 no_name words place word here bytes read e refused is_e name good there =
     let bad : is_name word ≡ false = sym (ap is_name read) ∙ refuses bytes e refused is_e in
     let same : word ≡ name = inside (slice_get words place) word name here there in
@@ -510,25 +599,30 @@ no_name words place word here bytes read e refused is_e name good there =
     true_false (is_name word) bad is
 
 -- a word that isn't read as a number is none's, nor is one that isn't spelled as it was read
-pub no_seed : {E : Type 0} (words : List (List ℕ)) (place : ℕ) (word : List ℕ) (r : Result ℕ E) → slice_get words place ≡ Some word → ParsesUnsigned 64 10 word r → (e : E) → r ≡ Err e → (seed : ℕ) → seed < 2 ^ 64 → slice_get words place ≡ Some (decimal seed) → ⊥
+pub no_seed : {E : Type 0} (words : List (List ℕ)) (place : ℕ) (word : List ℕ) (r : Result ℕ E) → slice_get words place ≡ Some word
+    → ParsesUnsigned 64 10 word r → (e : E) → r ≡ Err e → (seed : ℕ) → seed < 2 ^ 64 → slice_get words place ≡ Some (decimal seed) → ⊥
 no_seed words place word r here parses e bad seed small there =
     let same : word ≡ decimal seed = inside (slice_get words place) word (decimal seed) here there in
     let read : r ≡ Ok seed = parse-decimal 64 seed word r small small same parses in
     err_ok r e seed bad read
 
-pub other_seed : {E : Type 0} (words : List (List ℕ)) (place n : ℕ) (word : List ℕ) (r : Result ℕ E) → slice_get words place ≡ Some word → ParsesUnsigned 64 10 word r → r ≡ Ok n → (word ≡ decimal n → ⊥) → (seed : ℕ) → seed < 2 ^ 64 → slice_get words place ≡ Some (decimal seed) → ⊥
+pub other_seed : {E : Type 0} (words : List (List ℕ)) (place n : ℕ) (word : List ℕ) (r : Result ℕ E) → slice_get words place ≡ Some word
+    → ParsesUnsigned 64 10 word r → r ≡ Ok n → (word ≡ decimal n → ⊥) → (seed : ℕ) → seed < 2 ^ 64
+    → slice_get words place ≡ Some (decimal seed) → ⊥
 other_seed words place n word r here parses is off seed small there =
     let same : word ≡ decimal seed = inside (slice_get words place) word (decimal seed) here there in
     let read : r ≡ Ok seed = parse-decimal 64 seed word r small small same parses in
     off (same ∙ ap decimal (ok_ok r seed n read is))
 
 -- why a name isn't read is why the words are no load's
-pub name_end : (words : List (List ℕ)) (end : WordsEnd) → slice_get words 0 ≡ Some (codes "load") → HasNoName 1 words end → IsWrongBy end words
+pub name_end : (words : List (List ℕ)) (end : WordsEnd) → slice_get words 0 ≡ Some (codes "load") → HasNoName 1 words end
+    → IsWrongBy end words
 name_end words (Wrong at) first none = let W : ℕ → Type 0 = λ n. IsWrongAt n words in subst W (sym none.0) (wrong_name words first none.1)
 name_end words AtMemory first none = tt
 
 -- why a seed isn't read is why the words are no workload's
-pub seed_end : (words : List (List ℕ)) (end : WordsEnd) → slice_get words 0 ≡ Some (codes "demo") → HasNoSeed 1 words end → IsWrongBy end words
+pub seed_end : (words : List (List ℕ)) (end : WordsEnd) → slice_get words 0 ≡ Some (codes "demo") → HasNoSeed 1 words end
+    → IsWrongBy end words
 seed_end words (Wrong at) first none = let W : ℕ → Type 0 = λ n. IsWrongAt n words in subst W (sym none.0) (wrong_seed words first none.1)
 seed_end words AtMemory first none = tt
 

@@ -1,5 +1,6 @@
 -- What `clap` makes of all words.
-use Rattle.std.proofs.Common.{Bool, true, false, List, [], ◌∷◌, ◌++◌, ◌≡◌, refl, sym, ap, subst, ◌∙◌, map, ◌||◌, fold, is_some, if◌then◌else◌}
+use Rattle.std.proofs.Common.{Bool, true, false, List, [], ◌∷◌, ◌++◌, ◌≡◌, refl, sym, ap, subst, ◌∙◌, map, ◌||◌, fold, is_some}
+use Rattle.std.proofs.Common.{if◌then◌else◌}
 use Rattle.std.specs.Str.{IsUtf8}
 use Rattle.std.specs.Prelude.{String, string_bytes, ⊤}
 use Rattle.std.proofs.lemmas.Str.{IsUtf8-string_bytes}
@@ -13,7 +14,8 @@ use Rattle.clap.proofs.OnLiterals.{clap_on_literals}
 use Rattle.program_words.specs.CommandLine.{is_lone, is_flag, before_lone, behind_lone, plain_words, has_flag}
 use Rattle.program_words.proofs.WalkLemmas.{chart, rules, rows, at_none, at_more}
 use Rattle.program_words.proofs.FaultLemmas.{unknown}
-use Rattle.program_words.proofs.TurnLemmas.{shape, at_read, front_of, last_of, front_last, walked_trailing, walked_plain, walked_lone, trailing_free, plain_free, lone_free, flag_refused}
+use Rattle.program_words.proofs.TurnLemmas.{shape, at_read, front_of, last_of, front_last, walked_trailing, walked_plain, walked_lone}
+use Rattle.program_words.proofs.TurnLemmas.{trailing_free, plain_free, lone_free, flag_refused}
 
 and_more : (seen : List Text) (w : Text) (ws : List Text) → (seen ++ w ∷ []) ++ ws ≡ seen ++ w ∷ ws
 and_more [] w ws = refl
@@ -55,18 +57,22 @@ pub fault_plain : (seen ws : List Text) → AreTexts ws → walk_fault shape [] 
 unfolding walk_fault before_lone
 fault_plain seen [] utf8 = refl
 fault_plain seen (w ∷ ws) utf8 =
-    let F : Bool → Type 0 = λ lone. walk_fault shape [] (at_read seen false) (w ∷ ws) ≡ fault_if (list_any is_flag (if lone then [] else w ∷ before_lone ws)) in
+    let F : Bool → Type 0 = λ lone. walk_fault shape [] (at_read seen false) (w ∷ ws) ≡ fault_if
+    (list_any is_flag (if lone then [] else w ∷ before_lone ws)) in
     let P : Kinds → Type 0 = λ kinds. or_else kinds (walk_fault shape [] (walked rules [] (at_read seen false) w) ws) ≡ [] in
     let Q : Walk → Type 0 = λ state. walk_fault shape [] state ws ≡ [] in
     let R : Kinds → Type 0 = λ kinds. or_else kinds (walk_fault shape [] (walked rules [] (at_read seen false) w) ws) ≡ unknown in
-    let S : Kinds → Type 0 = λ kinds. or_else kinds (walk_fault shape [] (walked rules [] (at_read seen false) w) ws) ≡ fault_if (has_flag ws) in
+    let S : Kinds → Type 0 = λ kinds. or_else kinds (walk_fault shape [] (walked rules [] (at_read seen false) w) ws) ≡ fault_if
+    (has_flag ws) in
     let T : Walk → Type 0 = λ state. walk_fault shape [] state ws ≡ fault_if (has_flag ws) in
-    let G : Bool → Type 0 = λ flagged. walk_fault shape [] (at_read seen false) (w ∷ ws) ≡ fault_if (flagged || list_any is_flag (before_lone ws)) in
+    let G : Bool → Type 0 = λ flagged. walk_fault shape [] (at_read seen false) (w ∷ ws) ≡ fault_if
+    (flagged || list_any is_flag (before_lone ws)) in
     subst F refl ((elim (is_lone w) as (λ (b : Bool). is_lone w ≡ b → F b) [
       | true ↦ λ lone. subst P (sym (lone_free seen w lone)) (subst Q (sym (walked_lone seen w lone)) (fault_trailing seen ws))
       | false ↦ λ lone. ((elim (is_flag w) as (λ (b : Bool). is_flag w ≡ b → G b) [
         | true ↦ λ flagged. subst R (sym (flag_refused seen w utf8.0 lone flagged)) refl
-        | false ↦ λ plain. subst S (sym (plain_free seen w lone plain)) (subst T (sym (walked_plain seen w lone plain)) (fault_plain (seen ++ w ∷ []) ws utf8.1))
+        | false ↦ λ plain. subst S (sym (plain_free seen w lone plain))
+            (subst T (sym (walked_plain seen w lone plain)) (fault_plain (seen ++ w ∷ []) ws utf8.1))
       ]) refl)
     ]) refl)
 
@@ -81,15 +87,20 @@ walk_plain seen [] unflagged = record { trailing = false; is = ap (λ (l : List 
 walk_plain seen (w ∷ ws) unflagged =
     let state = fold (walked rules []) (at_read seen false) (w ∷ ws) in
     let Flags : Bool → Type 0 = λ lone. list_any is_flag (if lone then [] else w ∷ before_lone ws) ≡ false in
-    let Read : Bool → Type 0 = λ lone. (t : Bool) × (state ≡ at_read (seen ++ ((if lone then [] else w ∷ before_lone ws) ++ (if lone then ws else behind_lone ws))) t) in
+    let Read : Bool → Type 0 = λ lone. (t : Bool) × (state ≡ at_read
+    (seen ++ ((if lone then [] else w ∷ before_lone ws) ++ (if lone then ws else behind_lone ws))) t) in
     let read : Read (is_lone w) = (elim (is_lone w) as (λ (b : Bool). is_lone w ≡ b → Flags b → Read b) [
       | true ↦ λ lone none. (true, ap (λ (s : Walk). fold (walked rules []) s ws) (walked_lone seen w lone) ∙ walk_trailing seen ws)
-      | false ↦ λ lone none. ((elim (is_flag w) as (λ (b : Bool). is_flag w ≡ b → (b || list_any is_flag (before_lone ws)) ≡ false → Read false) [
-        | true ↦ λ flagged bad. absurd (let so : true ≡ false = bad in cc)
-        | false ↦ λ plain rest.
-            let later = walk_plain (seen ++ w ∷ []) ws rest in
-            (later.trailing, ap (λ (s : Walk). fold (walked rules []) s ws) (walked_plain seen w lone plain) ∙ later.is ∙ ap (λ (l : List Text). at_read l later.trailing) (and_more seen w (plain_words ws)))
-      ]) refl none)
+      | false ↦ λ lone none. ((elim (is_flag w) as (λ (b : Bool). is_flag w ≡ b → (b || list_any is_flag (before_lone ws)) ≡ false
+          → Read false) [
+            | true ↦ λ flagged bad. absurd (let so : true ≡ false = bad in cc)
+            | false ↦ λ plain rest.
+                let later = walk_plain (seen ++ w ∷ []) ws rest in (
+                  later.trailing,
+                  ap (λ (s : Walk). fold (walked rules []) s ws) (walked_plain seen w lone plain) ∙ later.is
+                      ∙ ap (λ (l : List Text). at_read l later.trailing) (and_more seen w (plain_words ws)),
+                )
+          ]) refl none)
     ]) refl unflagged in
     record { trailing = read.0; is = read.1 }
 
@@ -99,7 +110,8 @@ app = built chart
 
 abbrev level : Kinds → Walk → Kinds
 level faults end = or_else faults (or_else (entered_fault app end.stopped) (or_else (settle_fault rules false end.held)
-    (or_else (defaults_fault (settled rules end.held).rows rules) (check_fault shape (finished rules end.held) (is_some (entered app end.stopped))))))
+    (or_else (defaults_fault (settled rules end.held).rows rules)
+    (check_fault shape (finished rules end.held) (is_some (entered app end.stopped))))))
 
 whole : (ws : List Text) → fault_of chart ws ≡ level (walk_fault shape [] (at_none false) ws) (fold (walked rules []) (at_none false) ws)
 unfolding clap_on_literals
@@ -141,7 +153,8 @@ flag_fails ws utf8 flagged =
     whole ws ∙ subst P (sym so) refl
 
 -- no word at all is refused
-pub none_fails : (ws : List Text) → AreTexts ws → has_flag ws ≡ false → plain_words ws ≡ [] → fault_of chart ws ≡ kind.MissingRequiredArgument ∷ []
+pub none_fails : (ws : List Text) → AreTexts ws → has_flag ws ≡ false → plain_words ws ≡ []
+    → fault_of chart ws ≡ kind.MissingRequiredArgument ∷ []
 none_fails ws utf8 unflagged none =
     let read = walk_plain [] ws unflagged in
     let so : walk_fault shape [] (at_none false) ws ≡ [] = fault_plain [] ws utf8 ∙ ap fault_if unflagged in
@@ -151,7 +164,8 @@ none_fails ws utf8 unflagged none =
     whole ws ∙ subst P (sym so) (subst Q (sym read.is) (subst R (sym none) (none_level read.trailing)))
 
 -- a command and operands are taken
-pub words_pass : (ws : List Text) (c : Text) (os : List Text) → AreTexts ws → has_flag ws ≡ false → plain_words ws ≡ c ∷ os → fault_of chart ws ≡ []
+pub words_pass : (ws : List Text) (c : Text) (os : List Text) → AreTexts ws → has_flag ws ≡ false → plain_words ws ≡ c ∷ os
+    → fault_of chart ws ≡ []
 words_pass ws c os utf8 unflagged some =
     let read = walk_plain [] ws unflagged in
     let so : walk_fault shape [] (at_none false) ws ≡ [] = fault_plain [] ws utf8 ∙ ap fault_if unflagged in
@@ -161,7 +175,8 @@ words_pass ws c os utf8 unflagged some =
     whole ws ∙ subst P (sym so) (subst Q (sym read.is) (subst R (sym some) (read_level c os read.trailing)))
 
 -- and found
-pub words_found : (ws : List Text) (c : Text) (os : List Text) → has_flag ws ≡ false → plain_words ws ≡ c ∷ os → matches_of chart ws ≡ rows c os
+pub words_found : (ws : List Text) (c : Text) (os : List Text) → has_flag ws ≡ false → plain_words ws ≡ c ∷ os
+    → matches_of chart ws ≡ rows c os
 words_found ws c os unflagged some =
     let read = walk_plain [] ws unflagged in
     let Q : Walk → Type 0 = λ state. finished rules state.held ≡ rows c os in

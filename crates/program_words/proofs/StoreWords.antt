@@ -4,7 +4,8 @@ use Rattle.program_words.specs.CommandLine.{is_lone, before_lone, behind_lone, p
 use Rattle.program_words.specs.Stores.{begins_storeless, is_storeless, names_storeless, uses_no_store}
 use Rattle.program_words.specs.Words.{Spells}
 use Rattle.program_words.specs.declared.words.Command.{Command}
-use Rattle.program_words.specs.declared.words.Command.TheVariants.{Plot, Load, Demo, Run, Serve, Draw, Init, Check, ListSeries, Export, Retain, Cover, Live, Host, Derive}
+use Rattle.program_words.specs.declared.words.Command.TheVariants.{Plot, Load, Demo, Run, Serve, Draw, Init, Check, ListSeries, Export}
+use Rattle.program_words.specs.declared.words.Command.TheVariants.{Retain, Cover, Live, Host, Derive}
 
 -- the first word is the command's own
 pub storeless_of : (command : Command) (words : List (List ℕ)) → Spells command words → begins_storeless words ≡ uses_no_store command
@@ -29,7 +30,9 @@ pub begins_plain : (words : List (List ℕ)) → begins_storeless (plain_words w
 unfolding before_lone behind_lone
 begins_plain [] = refl
 begins_plain (word ∷ words) =
-    elim (is_lone word) as (λ (x : Bool). begins_storeless ((if x then [] else word ∷ before_lone words) ++ (if x then words else behind_lone words)) ≡ (if x then begins_storeless words else is_storeless word)) [
+    elim (is_lone word) as (λ (x : Bool). begins_storeless
+    ((if x then [] else word ∷ before_lone words) ++ (if x then words else behind_lone words)) ≡ (if x then begins_storeless words
+    else is_storeless word)) [
       | true ↦ refl
       | false ↦ refl
     ]

@@ -25,7 +25,11 @@ chart = with_rule (with_rule (on_top plain_shape (new_app (codes "chart"))) word
 
 -- the rules as they are built: numbered, each with one value
 abbrev pub built_rule : ℕ → Rule → Rule
-built_rule place rule = record rule { index = Some place; range = Some (record { start_inclusive = 1; end_inclusive = 1 }); parser = Some vp.String }
+built_rule place rule = record rule {
+  index = Some place;
+  range = Some (record { start_inclusive = 1; end_inclusive = 1 });
+  parser = Some vp.String;
+}
 
 abbrev pub rules : List Rule
 rules = built_rule 1 word_rule ∷ built_rule 2 operand_rule ∷ []
@@ -51,10 +55,22 @@ abbrev pub at_none : Bool → Walk
 at_none t = record { held = nothing_held; waiting = idle; position = 1; is_trailing = t; stopped = None }
 
 abbrev pub at_word : Text → Bool → Walk
-at_word c t = record { held = record { rows = []; pending = Some (codes "command", c ∷ []); skip = 0 }; waiting = idle; position = 2; is_trailing = t; stopped = None }
+at_word c t = record {
+  held = record { rows = []; pending = Some (codes "command", c ∷ []); skip = 0 };
+  waiting = idle;
+  position = 2;
+  is_trailing = t;
+  stopped = None;
+}
 
 abbrev pub at_more : Text → List Text → Text → Bool → Walk
-at_more c os last t = record { held = record { rows = rows c os; pending = Some (codes "operand", last ∷ []); skip = 0 }; waiting = positional; position = 2; is_trailing = t; stopped = None }
+at_more c os last t = record {
+  held = record { rows = rows c os; pending = Some (codes "operand", last ∷ []); skip = 0 };
+  waiting = positional;
+  position = 2;
+  is_trailing = t;
+  stopped = None;
+}
 
 pub first_trailing : (c : Text) → walked rules [] (at_none true) c ≡ at_word c true
 unfolding clap_on_literals
@@ -64,20 +80,24 @@ pub second_trailing : (c o : Text) → walked rules [] (at_word c true) o ≡ at
 unfolding clap_on_literals
 second_trailing c o = refl
 
-pub more_trailing : (c : Text) (os : List Text) (o last : Text) → walked rules [] (at_more c os o true) last ≡ at_more c (os ++ o ∷ []) last true
+pub more_trailing : (c : Text) (os : List Text) (o last : Text)
+    → walked rules [] (at_more c os o true) last ≡ at_more c (os ++ o ∷ []) last true
 unfolding clap_on_literals
 more_trailing c [] o last = refl
 more_trailing c (x ∷ xs) o last = refl
 
-pub first_plain : (c : Text) → bytes_eq c (45 ∷ 45 ∷ []) ≡ false → long_of c ≡ None → short_of c ≡ None → walked rules [] (at_none false) c ≡ at_word c false
+pub first_plain : (c : Text) → bytes_eq c (45 ∷ 45 ∷ []) ≡ false → long_of c ≡ None → short_of c ≡ None
+    → walked rules [] (at_none false) c ≡ at_word c false
 unfolding clap_on_literals
 first_plain c lone long short = rw (lone, long, short) refl
 
-pub second_plain : (c o : Text) → bytes_eq o (45 ∷ 45 ∷ []) ≡ false → long_of o ≡ None → short_of o ≡ None → walked rules [] (at_word c false) o ≡ at_more c [] o false
+pub second_plain : (c o : Text) → bytes_eq o (45 ∷ 45 ∷ []) ≡ false → long_of o ≡ None → short_of o ≡ None
+    → walked rules [] (at_word c false) o ≡ at_more c [] o false
 unfolding clap_on_literals
 second_plain c o lone long short = rw (lone, long, short) refl
 
-pub more_plain : (c : Text) (os : List Text) (o last : Text) → bytes_eq last (45 ∷ 45 ∷ []) ≡ false → long_of last ≡ None → short_of last ≡ None → walked rules [] (at_more c os o false) last ≡ at_more c (os ++ o ∷ []) last false
+pub more_plain : (c : Text) (os : List Text) (o last : Text) → bytes_eq last (45 ∷ 45 ∷ []) ≡ false → long_of last ≡ None
+    → short_of last ≡ None → walked rules [] (at_more c os o false) last ≡ at_more c (os ++ o ∷ []) last false
 unfolding clap_on_literals
 more_plain c [] o last lone long short = rw (lone, long, short) refl
 more_plain c (x ∷ xs) o last lone long short = rw (lone, long, short) refl

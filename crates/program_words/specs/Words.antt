@@ -1,12 +1,14 @@
 -- The words of the command line.
-use Rattle.std.specs.Prelude.{◌≡◌, ◌⊎◌, ℕ, ◌+◌, ◌<◌, ◌≤◌, ◌^◌, true, false, List, [], ◌∷◌, take, map, codes, slice_get, Option, None, Some, Result, Ok, Err, String, string_bytes, IsTrue, ⊤}
+use Rattle.std.specs.Prelude.{◌≡◌, ◌⊎◌, ℕ, ◌+◌, ◌<◌, ◌≤◌, ◌^◌, true, false, List, [], ◌∷◌, take, map, codes, slice_get, Option, None, Some}
+use Rattle.std.specs.Prelude.{Result, Ok, Err, String, string_bytes, IsTrue, ⊤}
 use Rattle.std.specs.Fmt.{decimal, signed_decimal}
 use Rattle.chart_grid.specs.Limits.{IsSide, IsWindow}
 use Rattle.series_book.specs.Names.{is_name}
 use Rattle.series_export.specs.declared.window.Window.{Window}
 use Rattle.program_words.specs.CommandLine.{plain_words, has_flag}
 use Rattle.program_words.specs.declared.words.Command.{Command}
-use Rattle.program_words.specs.declared.words.Command.TheVariants.{Plot, Load, Demo, Run, Serve, Draw, Init, Check, ListSeries, Export, Retain, Cover, Live, Host, Derive}
+use Rattle.program_words.specs.declared.words.Command.TheVariants.{Plot, Load, Demo, Run, Serve, Draw, Init, Check, ListSeries, Export}
+use Rattle.program_words.specs.declared.words.Command.TheVariants.{Retain, Cover, Live, Host, Derive}
 use Rattle.program_words.specs.declared.words.WordsEnd.{WordsEnd}
 use Rattle.program_words.specs.declared.words.WordsEnd.TheVariants.{Wrong, NoMemory}
 
@@ -96,7 +98,8 @@ pub record IsWrongAt (place : ℕ) (words : List (List ℕ)) : Type 0 where
 
 -- the same where the words are an export's up to its name
 abbrev pub IsWrongExport : List (List ℕ) → ℕ → Type 0
-IsWrongExport words place = (name : List ℕ) → IsTrue (is_name name) → slice_get words 0 ≡ Some (codes "export") → slice_get words 1 ≡ Some name → IsWrongAt place words
+IsWrongExport words place = (name : List ℕ) → IsTrue (is_name name) → slice_get words 0 ≡ Some (codes "export")
+    → slice_get words 1 ≡ Some name → IsWrongAt place words
 
 -- why words aren't those of a command
 abbrev pub IsWrongBy : WordsEnd → List (List ℕ) → Type 0

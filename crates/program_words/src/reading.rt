@@ -16,8 +16,10 @@ use std::alloc::Global;
 /// or where no word is left beside that `--`.
 pub(crate) fn read_words<'a>(alloc: Global, words: &'a [String]) -> Result<Vec<&'a str>, WordsError>
     ensures words { IfOk result (λ read. map (λ word. word.now) read.items ≡ plain_words (map string_bytes words.now)) }
-    ensures accepted { IfOk result (λ read. (has_flag (map string_bytes words.now) ≡ false) × (plain_words (map string_bytes words.now) ≢ [])) }
-    ensures refused { result ≡ Err WordsError.Refused → (has_flag (map string_bytes words.now) ≡ true) ⊎ (plain_words (map string_bytes words.now) ≡ []) }
+    ensures accepted { IfOk result (λ read. (has_flag (map string_bytes words.now) ≡ false)
+        × (plain_words (map string_bytes words.now) ≢ [])) }
+    ensures refused { result ≡ Err WordsError.Refused → (has_flag (map string_bytes words.now) ≡ true)
+        ⊎ (plain_words (map string_bytes words.now) ≡ []) }
 {
     match parse(alloc, words) {
         Ok(matches) => list(alloc, &matches),

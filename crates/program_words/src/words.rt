@@ -1,10 +1,12 @@
-ghost use Rattle.std.specs.Prelude.{◌≡◌, ◌≢◌, ◌↔◌, ◌<◌, ◌≤◌, ◌^◌, false, ℕ, ℤ, IsTrue, map, length, None, Some, MatchOption, string_bytes, slice_get, IfOk, IfErr, IfSome, IfNone, codes};
+ghost use Rattle.std.specs.Prelude.{◌≡◌, ◌≢◌, ◌↔◌, ◌<◌, ◌≤◌, ◌^◌, false, ℕ, ℤ, IsTrue, map, length, None, Some, MatchOption, string_bytes};
+ghost use Rattle.std.specs.Prelude.{slice_get, IfOk, IfErr, IfSome, IfNone, codes};
 ghost use Rattle.std.specs.Fmt.{decimal, signed_decimal};
 ghost use Rattle.chart_grid.specs.Limits.{IsSide, IsWindow};
 ghost use Rattle.series_book.specs.Names.{is_name};
 ghost use Rattle.whole_number.specs.Range.{IsTime};
 ghost use Rattle.program_words.specs.CommandLine.{plain_words, has_flag};
-ghost use Rattle.program_words.specs.Words.{Spells, IsEvery, IsWrongAt, IsWrongBy, IsWrongExport, IsSingle, EndsWords, HasNoName, HasNoSeed, word_of, placed};
+ghost use Rattle.program_words.specs.Words.{Spells, IsEvery, IsWrongAt, IsWrongBy, IsWrongExport, IsSingle, EndsWords, HasNoName};
+ghost use Rattle.program_words.specs.Words.{HasNoSeed, word_of, placed};
 ghost use Rattle.program_words.specs.declared.words.Command.{Command};
 
 use crate::errors::WordsError;
@@ -128,8 +130,10 @@ fn alone(words: &[&str]) -> Result<Command, u64>
 
 /// The command without operands that the first word is, or its place.
 fn single_word(words: &[&str]) -> Result<Command, u64>
-    ensures command { IfOk result (λ command. (slice_get (map (λ word. word.now) words.now) 0 ≡ Some (word_of command)) × IsSingle command) }
-    ensures wrong { IfErr result (λ place. (place ≡ 0) × ((command : Command) → IsSingle command → slice_get (map (λ word. word.now) words.now) 0 ≡ Some (word_of command) → ⊥)) }
+    ensures command { IfOk result (λ command. (slice_get (map (λ word. word.now) words.now) 0 ≡ Some (word_of command))
+        × IsSingle command) }
+    ensures wrong { IfErr result (λ place. (place ≡ 0)
+        × ((command : Command) → IsSingle command → slice_get (map (λ word. word.now) words.now) 0 ≡ Some (word_of command) → ⊥)) }
 {
     if is_word(words, 0, "run") {
         Ok(Command::Run)
@@ -238,8 +242,10 @@ fn window_of(words: &[&str]) -> Result<Window, u64>
 
 /// The time that the word at a place spells, at most 2 * 10^18 in size.
 fn time_at(words: &[&str], place: usize) -> Option<i128>
-    ensures found { IfSome result (λ time. IsTime time × (slice_get (map (λ word. word.now) words.now) place ≡ Some (signed_decimal time))) }
-    ensures none { IfNone result ((time : ℤ) → IsTime time → slice_get (map (λ word. word.now) words.now) place ≡ Some (signed_decimal time) → ⊥) }
+    ensures found { IfSome result (λ time. IsTime time
+        × (slice_get (map (λ word. word.now) words.now) place ≡ Some (signed_decimal time))) }
+    ensures none { IfNone result ((time : ℤ) → IsTime time → slice_get (map (λ word. word.now) words.now) place ≡ Some (signed_decimal time)
+        → ⊥) }
 {
     let word = word_at(words, place)?;
     let time = integer(word.as_bytes())?;
@@ -271,7 +277,8 @@ fn cover_of(words: &[&str]) -> Result<Command, u64>
 /// The number of coefficients from one cover to the next that the word at a place spells, 1 to 131,072.
 fn every_at(words: &[&str], place: usize) -> Option<u32>
     ensures found { IfSome result (λ every. IsEvery every × (slice_get (map (λ word. word.now) words.now) place ≡ Some (decimal every))) }
-    ensures none { IfNone result ((every : ℕ) → IsEvery every → slice_get (map (λ word. word.now) words.now) place ≡ Some (decimal every) → ⊥) }
+    ensures none { IfNone result ((every : ℕ) → IsEvery every → slice_get (map (λ word. word.now) words.now) place ≡ Some (decimal every)
+        → ⊥) }
 {
     let word = word_at(words, place)?;
     let number = natural(word.as_bytes())?;
@@ -365,7 +372,8 @@ fn is_word(words: &[&str], place: usize, text: &str) -> bool
 
 /// The word at a place, where there is one.
 fn word_at<'a>(words: &[&'a str], place: usize) -> Option<&'a str>
-    ensures { MatchOption result (slice_get (map (λ word. word.now) words.now) place ≡ None) (λ word. slice_get (map (λ word. word.now) words.now) place ≡ Some word.now) }
+    ensures { MatchOption result (slice_get (map (λ word. word.now) words.now) place ≡ None)
+        (λ word. slice_get (map (λ word. word.now) words.now) place ≡ Some word.now) }
 {
     if place < words.len() {
         Some(words[place])

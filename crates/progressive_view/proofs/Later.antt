@@ -27,7 +27,8 @@ turn-later view i j k order low turn next at =
       | inl less ↦
           (let inside : j < length view.coefs = slice_get_within view.coefs j next at in
           let here : get_or view.coefs j next ≡ next = get_or_from_slice_get view.coefs j next next at in
-          let first : slice_get view.coefs i ≡ Some (get_or view.coefs i next) = slice_get-get_or view.coefs i next (omega (arith, less, inside)) in
+          let first : slice_get view.coefs i ≡ Some (get_or view.coefs i next) = slice_get-get_or view.coefs i next
+          (omega (arith, less, inside)) in
           before_on k (get_or view.coefs i next).0 next.0 (turn (get_or view.coefs i next) first)
           (subst (λ (e : Key × Coef). ComesBefore (get_or view.coefs i next).0 e.0) here
           (in-order (get_or view.coefs i next) (get_or view.coefs j next) (order i j next less inside))))
@@ -42,8 +43,10 @@ used-later view holding grid i j k c order low (inr h) =
 pub one-holding : {a b : Holding} → ◌≡◌ {A = Option Holding} (Some a) (Some b) → a ≡ b
 one-holding h = cc
 
-pub later-within : ((scene : Scene) (more : Key → Option Coef) (x : ℕ) (y : ℤ) → IsToldBy scene.told more → InCover (with_told scene more) x y → InCover scene x y)
-    → (view : ViewFrame) (holdings : List Holding) (i j : ℕ) (early : Stage view holdings i) (late : Stage view holdings j) (x : ℕ) (y : ℤ) → FitsView view → i ≤ j
+pub later-within : ((scene : Scene) (more : Key → Option Coef) (x : ℕ) (y : ℤ) → IsToldBy scene.told more
+    → InCover (with_told scene more) x y → InCover scene x y)
+    → (view : ViewFrame) (holdings : List Holding) (i j : ℕ) (early : Stage view holdings i) (late : Stage view holdings j) (x : ℕ) (y : ℤ)
+    → FitsView view → i ≤ j
     → InCover (scene_by view late.grid late.told) x y → InCover (scene_by view early.grid early.told) x y
 later-within shrink view holdings i j early late x y fits low is =
     let grids : late.grid ≡ early.grid = grid_one view late.grid early.grid late.grid_is early.grid_is in

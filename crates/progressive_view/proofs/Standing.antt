@@ -1,5 +1,6 @@
 -- Where a key stands in a list in order.
-use Rattle.std.proofs.Common.{ℕ, zero, suc, ◌≡◌, ◌+◌, ◌<◌, ◌≤◌, inl, inr, Bool, true, false, cond, List, [], ◌∷◌, length, get_or, sym, ap, ◌∙◌, subst, arith}
+use Rattle.std.proofs.Common.{ℕ, zero, suc, ◌≡◌, ◌+◌, ◌<◌, ◌≤◌, inl, inr, Bool, true, false, cond, List, [], ◌∷◌, length, get_or, sym, ap}
+use Rattle.std.proofs.Common.{◌∙◌, subst, arith}
 use Rattle.std.proofs.lemmas.Bool.{cases_lt}
 use Rattle.std.proofs.lemmas.Bool.Decides.{nat_tests}
 use Rattle.std.proofs.lemmas.List.{get_or_default}
@@ -23,7 +24,8 @@ pub record Narrowed (list : List (Key × Coef)) (key : Key) (from to : ℕ) : Ty
   pub before : (i : ℕ) (d : Key × Coef) → i < from → ComesBefore (get_or list i d).0 key
   pub behind : (i : ℕ) (d : Key × Coef) → to ≤ i → i < length list → ComesBefore (get_or list i d).0 key → ⊥
 
-pub narrowed-up : (list : List (Key × Coef)) (key : Key) (from to middle next : ℕ) (x : Key × Coef) → AllPairs Precedes list → Narrowed list key from to
+pub narrowed-up : (list : List (Key × Coef)) (key : Key) (from to middle next : ℕ) (x : Key × Coef) → AllPairs Precedes list
+    → Narrowed list key from to
     → middle < to → next ≡ middle + 1 → x ≡ get_or list middle x → ComesBefore x.0 key → Narrowed list key next to
 narrowed-up list key from to middle next x order h less is at before = record {
   order = omega (arith, less, is);
@@ -41,7 +43,8 @@ narrowed-up list key from to middle next x order h less is at before = record {
   behind = h.behind;
 }
 
-pub narrowed-down : (list : List (Key × Coef)) (key : Key) (from to middle : ℕ) (x : Key × Coef) → AllPairs Precedes list → Narrowed list key from to
+pub narrowed-down : (list : List (Key × Coef)) (key : Key) (from to middle : ℕ) (x : Key × Coef) → AllPairs Precedes list
+    → Narrowed list key from to
     → from ≤ middle → middle < to → x ≡ get_or list middle x → (ComesBefore x.0 key → ⊥) → Narrowed list key from middle
 narrowed-down list key from to middle x order h low less at not = record {
   order = low;

@@ -1,5 +1,6 @@
 -- Where a key stands in a list in order.
-use Rattle.std.specs.Prelude.{ℕ, suc, ◌<◌, ◌≤◌, Bool, ◌||◌, ◌&&◌, ◌==◌, nat_lt, if◌then◌else◌, List, [], ◌∷◌, length, get_or, Option, None, Some}
+use Rattle.std.specs.Prelude.{ℕ, suc, ◌<◌, ◌≤◌, Bool, ◌||◌, ◌&&◌, ◌==◌, nat_lt, if◌then◌else◌, List, [], ◌∷◌, length, get_or, Option, None}
+use Rattle.std.specs.Prelude.{Some}
 use Rattle.om3_coeff.specs.declared.key.Key.{Key}
 use Rattle.om3_coeff.specs.declared.coef.Coef.{Coef}
 use Rattle.view_keys.specs.Listed.{ComesBefore}

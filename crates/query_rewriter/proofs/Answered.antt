@@ -10,19 +10,22 @@ use Rattle.query_rewriter.specs.Scans.{IsSo, Says}
 use Rattle.query_rewriter.proofs.Windows.{time_rises}
 
 -- the time of a slot lies from the time of the first one to that of the last one
-within_times : (axis : Axis) (a b i : ℕ) (s e : ℤ) → s ≡ slot_time axis a → e ≡ slot_time axis (b - 1) → a ≤ i → i < b → IsWithin (s, e) (slot_time axis i)
+within_times : (axis : Axis) (a b i : ℕ) (s e : ℤ) → s ≡ slot_time axis a → e ≡ slot_time axis (b - 1) → a ≤ i → i < b
+    → IsWithin (s, e) (slot_time axis i)
 within_times axis a b i s e first last from to = (
   (let P : ℤ → Type 0 = λ z. z ≤ℤ slot_time axis i in subst P (sym first) (time_rises axis a i from)),
   (let P : ℤ → Type 0 = λ z. slot_time axis i ≤ℤ z in subst P (sym last) (time_rises axis i (b - 1) (omega arith))),
 )
 
-so : (f : Expression) (axis : Axis) (a b : ℕ) (values : Interval) (s e : ℤ) (truth : Bool) → s ≡ slot_time axis a → e ≡ slot_time axis (b - 1)
+so : (f : Expression) (axis : Axis) (a b : ℕ) (values : Interval) (s e : ℤ) (truth : Bool) → s ≡ slot_time axis a
+    → e ≡ slot_time axis (b - 1)
     → ((t v : ℤ) → IsWithin (s, e) t → IsWithin values v → holds_at f t v ≡ truth) → IsSo f axis a b values truth
 so f axis a b values s e truth first last h = record {
   each = λ i v from to low high. h (slot_time axis i) v (within_times axis a b i s e first last from to) (low, high);
 }
 
-pub says : (f : Expression) (axis : Axis) (a b : ℕ) (values : Interval) (s e : ℤ) (answer : BoxAnswer) → s ≡ slot_time axis a → e ≡ slot_time axis (b - 1)
+pub says : (f : Expression) (axis : Axis) (a b : ℕ) (values : Interval) (s e : ℤ) (answer : BoxAnswer) → s ≡ slot_time axis a
+    → e ≡ slot_time axis (b - 1)
     → ((t v : ℤ) → IsAnswer f (s, e) values All → IsWithin (s, e) t → IsWithin values v → holds_at f t v ≡ true)
     → ((t v : ℤ) → IsAnswer f (s, e) values Nothing → IsWithin (s, e) t → IsWithin values v → holds_at f t v ≡ false)
     → IsAnswer f (s, e) values answer → Says f axis (a, b) values answer

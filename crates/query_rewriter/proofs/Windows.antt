@@ -22,7 +22,8 @@ slots_shown axis g a b start stop = record {
           to = (stop.before i slot).0 to;
         }
 
-pub shown_slots : (axis : Axis) (g : Grid) (a b i : ℕ) → AreSlotsBefore axis g.t0 a → AreSlotsBefore axis g.t1 b → i < axis.slots → InWindow g (slot_time axis i) → (a ≤ i) × (i < b)
+pub shown_slots : (axis : Axis) (g : Grid) (a b i : ℕ) → AreSlotsBefore axis g.t0 a → AreSlotsBefore axis g.t1 b → i < axis.slots
+    → InWindow g (slot_time axis i) → (a ≤ i) × (i < b)
 shown_slots axis g a b i start stop slot shown = (
   (let low : a ≤ i = elim (cases_lt i a) [
     | inl less ↦ absurd (omega (arith, ints, shown.from, (start.before i slot).0 less))

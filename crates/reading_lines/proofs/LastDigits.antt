@@ -1,5 +1,6 @@
 -- The last digits of a number: what they are worth, and how they come out of `decimal`.
-use Rattle.std.proofs.Common.{◌≡◌, ℕ, zero, suc, ◌+◌, ◌*◌, ◌/◌, ◌%◌, ◌^◌, ◌<◌, ◌≤◌, List, [], ◌∷◌, ◌++◌, length, drop, refl, ap, sym, ◌∙◌, arith, length-append}
+use Rattle.std.proofs.Common.{◌≡◌, ℕ, zero, suc, ◌+◌, ◌*◌, ◌/◌, ◌%◌, ◌^◌, ◌<◌, ◌≤◌, List, [], ◌∷◌, ◌++◌, length, drop, refl, ap, sym, ◌∙◌}
+use Rattle.std.proofs.Common.{arith, length-append}
 use Rattle.std.specs.Char.{digit_value}
 use Rattle.std.specs.Int.{IsInRange}
 use Rattle.std.specs.Fmt.{decimal}
@@ -46,7 +47,13 @@ last_value (suc s) n q r is small =
     let power = pow-suc 10 s in
     let parts : n ≡ q * (10 ^ s * 10) + r = is ∙ ap (λ p. q * p + r) power in
     let front = last_value s (n / 10) q (r / 10) (tenth n q (10 ^ s) r parts) (omega (arith, small, power)) in
-    omega (arith, digits_value_push 10 (last_digits s (n / 10)) (48 + n % 10), one_digit (n % 10) (omega arith), front, unit_of n q (10 ^ s) r parts)
+    omega (
+      arith,
+      digits_value_push 10 (last_digits s (n / 10)) (48 + n % 10),
+      one_digit (n % 10) (omega arith),
+      front,
+      unit_of n q (10 ^ s) r parts,
+    )
 
 -- with a 1 in front the last digits are a number's digits
 pub with_one : (s n q r : ℕ) → 10 ^ s ≤ 10 ^ 9 → n ≡ q * 10 ^ s + r → r < 10 ^ s → decimal (10 ^ s + r) ≡ 49 ∷ last_digits s n
@@ -65,14 +72,16 @@ with_one (suc s) n q r low is small =
     ∙ decimal_step (10 ^ s * 10 + r) (omega (arith, some)) (omega (arith, low, power, small))
     ∙ ap (λ m. decimal m ++ (48 + (10 ^ s * 10 + r) % 10) ∷ []) front
     ∙ ap (λ d. decimal (10 ^ s + r / 10) ++ (48 + d) ∷ []) back
-    ∙ ap (λ ds. ds ++ (48 + n % 10) ∷ []) (with_one s (n / 10) q (r / 10) (omega (arith, low, power)) (tenth n q (10 ^ s) r parts) (omega (arith, small, power)))
+    ∙ ap (λ ds. ds ++ (48 + n % 10) ∷ []) (with_one s (n / 10) q (r / 10) (omega (arith, low, power)) (tenth n q (10 ^ s) r parts)
+    (omega (arith, small, power)))
 
 -- a point in place of that 1
 point_some : (ds : List ℕ) → 0 < length ds → 46 ∷ ds ≡ point_and ds
 point_some [] some = absurd (omega (arith, some))
 point_some (d ∷ ds) some = refl
 
-pub pointed : (s n p : ℕ) (tail : List ℕ) → 0 < s → p ≡ 10 ^ s → 10 ^ s ≤ 10 ^ 9 → 46 ∷ drop 1 (decimal (p + n % p) ++ tail) ≡ point_and (last_digits s n) ++ tail
+pub pointed : (s n p : ℕ) (tail : List ℕ) → 0 < s → p ≡ 10 ^ s → 10 ^ s ≤ 10 ^ 9
+    → 46 ∷ drop 1 (decimal (p + n % p) ++ tail) ≡ point_and (last_digits s n) ++ tail
 pointed s n p tail some is low =
     let unit : 1 ≤ 10 ^ s = one-le-pow s 10 (omega arith) in
     let digits : decimal (10 ^ s + n % 10 ^ s) ≡ 49 ∷ last_digits s n =

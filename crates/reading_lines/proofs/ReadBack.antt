@@ -1,5 +1,7 @@
 -- The row of a reading is read back as that reading.
-use Rattle.std.proofs.Common.{◌≡◌, ◌≢◌, ℕ, zero, suc, ℤ, pos, negsuc, ◌-ℤ◌, unsigned_abs, ◌+◌, ◌-◌, ◌*◌, ◌/◌, ◌%◌, ◌^◌, ◌<◌, ◌≤◌, true, false, List, [], ◌∷◌, ◌++◌, length, take, get_or, reverse, Option, Some, refl, ap, sym, subst, ◌∙◌, arith, inl, inr, length-append}
+use Rattle.std.proofs.Common.{◌≡◌, ◌≢◌, ℕ, zero, suc, ℤ, pos, negsuc, ◌-ℤ◌, unsigned_abs, ◌+◌, ◌-◌, ◌*◌, ◌/◌, ◌%◌, ◌^◌, ◌<◌, ◌≤◌, true}
+use Rattle.std.proofs.Common.{false, List, [], ◌∷◌, ◌++◌, length, take, get_or, reverse, Option, Some, refl, ap, sym, subst, ◌∙◌, arith}
+use Rattle.std.proofs.Common.{inl, inr, length-append}
 use Rattle.std.specs.List.{All, AllPass, AllByRecursion, prefix_len}
 use Rattle.std.specs.Int.{IsInRange}
 use Rattle.std.specs.Option.{IsSomeAnd}
@@ -91,7 +93,10 @@ marks_value s (negsuc n) small = ((omega arith, omega arith), marks_size s (suc 
 
 pub marks_time : (z : ℤ) → unsigned_abs z < 10 ^ 19 → AllByRecursion IsMark (signed_decimal z)
 marks_time (pos n) small = marks_digits (decimal n) (decimal_is_IsNumeral n (omega (arith, small))).0.1
-marks_time (negsuc n) small = ((omega arith, omega arith), marks_digits (decimal (suc n)) (decimal_is_IsNumeral (suc n) (omega (arith, small))).0.1)
+marks_time (negsuc n) small = (
+  (omega arith, omega arith),
+  marks_digits (decimal (suc n)) (decimal_is_IsNumeral (suc n) (omega (arith, small))).0.1,
+)
 
 -- the text of a size is that number, scaled
 scaled_parts : (w p v s k : ℕ) → k ≡ 0 → v ≡ w * p + s → v ≡ w * p + s * 10 ^ k
@@ -102,10 +107,12 @@ spells_size s n small =
     let some : 1 ≤ 10 ^ s = one-le-pow s 10 (omega arith) in
     let split : n ≡ n / 10 ^ s * 10 ^ s + n % 10 ^ s = sym (div-add-mod' n (10 ^ s)) in
     let numeral = decimal_is_IsNumeral (n / 10 ^ s) (quotient_small s n small) in
-    let behind : digits_value 10 (last_digits s n) ≡ n % 10 ^ s = last_value s n (n / 10 ^ s) (n % 10 ^ s) split (mod_below n (10 ^ s) some) in
+    let behind : digits_value 10 (last_digits s n) ≡ n % 10 ^ s = last_value s n (n / 10 ^ s) (n % 10 ^ s) split
+    (mod_below n (10 ^ s) some) in
     let long = length_last s n in
     let both : n ≡ digits_value 10 (decimal (n / 10 ^ s)) * 10 ^ s + digits_value 10 (last_digits s n) =
-    split ∙ ap (λ w. w * 10 ^ s + n % 10 ^ s) (sym numeral.1) ∙ ap (λ v. digits_value 10 (decimal (n / 10 ^ s)) * 10 ^ s + v) (sym behind) in
+    split ∙ ap (λ w. w * 10 ^ s + n % 10 ^ s) (sym numeral.1)
+    ∙ ap (λ v. digits_value 10 (decimal (n / 10 ^ s)) * 10 ^ s + v) (sym behind) in
     record {
       whole = decimal (n / 10 ^ s);
       places = last_digits s n;
@@ -113,7 +120,8 @@ spells_size s n small =
       whole_digits = numeral.0;
       place_digits = last_are_digits s n;
       few = omega (arith, long);
-      value = scaled_parts (digits_value 10 (decimal (n / 10 ^ s))) (10 ^ s) n (digits_value 10 (last_digits s n)) (s - length (last_digits s n)) (omega (arith, long)) both;
+      value = scaled_parts (digits_value 10 (decimal (n / 10 ^ s))) (10 ^ s) n (digits_value 10 (last_digits s n))
+          (s - length (last_digits s n)) (omega (arith, long)) both;
       short = small;
     }
 
@@ -146,7 +154,8 @@ no_mark z rest small = first_mark (signed_decimal z) rest (marks_time z small)
 
 -- a line that is these two fields says the reading
 pub says_of : (scale : ℕ) (time value : ℤ) → unsigned_abs time < 10 ^ 19 → unsigned_abs value < 10 ^ 19
-    → fields_of_line (signed_decimal time ++ 44 ∷ decimal_text scale value) ≡ Some (record { time = trimmed (signed_decimal time); value = trimmed (decimal_text scale value) })
+    → fields_of_line (signed_decimal time ++ 44 ∷ decimal_text scale value) ≡ Some
+    (record { time = trimmed (signed_decimal time); value = trimmed (decimal_text scale value) })
     → Says scale (reading_row scale time value) (Point time value)
 says_of scale time value small_time small_value is =
     let build : List ℕ → List ℕ → Option Fields = λ t v. Some (record { time = t; value = v }) in
@@ -161,7 +170,8 @@ says_of scale time value small_time small_value is =
 pub without_feed : (one other : List ℕ) → one ++ 10 ∷ [] ≡ other ++ 10 ∷ [] → one ≡ other
 without_feed one other same =
     let n : length one ≡ length other = omega (arith, ap length same, length-append one (10 ∷ []), length-append other (10 ∷ [])) in
-    sym (take-append_seam one (10 ∷ [])) ∙ ap (λ xs. take (length one) xs) same ∙ ap (λ k. take k (other ++ 10 ∷ [])) n ∙ take-append_seam other (10 ∷ [])
+    sym (take-append_seam one (10 ∷ [])) ∙ ap (λ xs. take (length one) xs) same ∙ ap (λ k. take k (other ++ 10 ∷ [])) n
+    ∙ take-append_seam other (10 ∷ [])
 
 pub same_point : (time value later other : ℤ) → Point time value ≡ Point later other → (time ≡ later) × (value ≡ other)
 same_point time value later other same = (cc, cc)
@@ -181,7 +191,8 @@ all_comma : (ys : List ℕ) → All (λ c. IsInRange 44 57 c) ys → All (λ c. 
 all_comma ys all zero d inside = (omega arith, omega arith)
 all_comma ys all (suc k) d inside = all k d (omega (arith, inside))
 
-pub row_bytes : (s : ℕ) (time value : ℤ) → unsigned_abs time < 10 ^ 19 → unsigned_abs value < 10 ^ 19 → All (λ c. IsInRange 44 57 c) (reading_row s time value)
+pub row_bytes : (s : ℕ) (time value : ℤ) → unsigned_abs time < 10 ^ 19 → unsigned_abs value < 10 ^ 19
+    → All (λ c. IsInRange 44 57 c) (reading_row s time value)
 row_bytes s time value small_time small_value =
     all_behind (signed_decimal time) (44 ∷ decimal_text s value) (marks_time time small_time)
     (all_comma (decimal_text s value) (all_marks (decimal_text s value) (marks_value s value small_value)))
@@ -200,12 +211,26 @@ short_point (d ∷ ds) = omega arith
 short_size : (s n : ℕ) → s ≤ 9 → n < 10 ^ 19 → length (size_text s n) ≤ 29
 short_size s n few small =
     let less : n / 10 ^ s < 10 ^ 19 = omega (arith, small, quotient_le s n) in
-    omega (arith, length-append (decimal (n / 10 ^ s)) (point_and (last_digits s n)), short_point (last_digits s n), length_last s n, few, short_decimal (n / 10 ^ s) less)
+    omega (
+      arith,
+      length-append (decimal (n / 10 ^ s)) (point_and (last_digits s n)),
+      short_point (last_digits s n),
+      length_last s n,
+      few,
+      short_decimal (n / 10 ^ s) less,
+    )
 
 short_value : (s : ℕ) (z : ℤ) → s ≤ 9 → unsigned_abs z < 10 ^ 19 → length (decimal_text s z) ≤ 30
 short_value s (pos n) few small = omega (arith, short_size s n few small)
 short_value s (negsuc n) few small = omega (arith, short_size s (suc n) few small)
 
-pub short_line : (s : ℕ) (time value : ℤ) → s ≤ 9 → unsigned_abs time < 10 ^ 19 → unsigned_abs value < 10 ^ 19 → length (reading_row s time value ++ 10 ∷ []) ≤ 52
+pub short_line : (s : ℕ) (time value : ℤ) → s ≤ 9 → unsigned_abs time < 10 ^ 19 → unsigned_abs value < 10 ^ 19
+    → length (reading_row s time value ++ 10 ∷ []) ≤ 52
 short_line s time value few small_time small_value =
-    omega (arith, length-append (reading_row s time value) (10 ∷ []), length-append (signed_decimal time) (44 ∷ decimal_text s value), short_time time small_time, short_value s value few small_value)
+    omega (
+      arith,
+      length-append (reading_row s time value) (10 ∷ []),
+      length-append (signed_decimal time) (44 ∷ decimal_text s value),
+      short_time time small_time,
+      short_value s value few small_value,
+    )

@@ -1,5 +1,6 @@
 -- The line of a series, cut at its spaces.
-use Rattle.std.proofs.Common.{◌≡◌, ℕ, zero, suc, ℤ, pos, negsuc, ◌^◌, ◌<◌, Bool, true, false, List, [], ◌∷◌, ◌++◌, length, get_or, refl, ap, sym, ◌∙◌, arith}
+use Rattle.std.proofs.Common.{◌≡◌, ℕ, zero, suc, ℤ, pos, negsuc, ◌^◌, ◌<◌, Bool, true, false, List, [], ◌∷◌, ◌++◌, length, get_or, refl, ap}
+use Rattle.std.proofs.Common.{sym, ◌∙◌, arith}
 use Rattle.std.specs.Prelude.{nat_le, ◌&&◌}
 use Rattle.std.specs.Bool.{IsTrue}
 use Rattle.std.specs.List.{All, AllByRecursion, list_all, slice_split}
@@ -43,20 +44,25 @@ natural_no_space : (n : ℕ) → n < 2 ^ 64 → All (λ b. is_space b ≡ false)
 natural_no_space n small = marks_no_space (decimal n) (marks_digits (decimal n) (decimal_is_IsNumeral n small).0.1)
 
 pub row_words : (name : List ℕ) (axis : Axis) (scale : ℕ) → IsTold name axis scale
-    → slice_split is_space (series_row name axis scale) ≡ name ∷ signed_decimal axis.start ∷ decimal axis.step ∷ decimal scale ∷ decimal axis.slots ∷ []
+    → slice_split is_space (series_row name axis scale) ≡ name ∷ signed_decimal axis.start ∷ decimal axis.step ∷ decimal scale ∷ decimal
+    axis.slots ∷ []
 row_words name axis scale told =
     let start = signed_decimal axis.start in
     let step = decimal axis.step in
     let places = decimal scale in
     let slots = decimal axis.slots in
     let last = slice_split_none is_space slots (natural_no_space axis.slots (omega (arith, told.slots_in_range))) in
-    let third = slice_split_at is_space places 32 slots (natural_no_space scale (omega (arith, told.scale_in_range))) refl ∙ ap (λ ws. places ∷ ws) last in
-    let second = slice_split_at is_space step 32 (places ++ 32 ∷ slots) (natural_no_space axis.step (omega (arith, told.step_in_range))) refl ∙ ap (λ ws. step ∷ ws) third in
-    let first = slice_split_at is_space start 32 (step ++ 32 ∷ (places ++ 32 ∷ slots)) (marks_no_space start (marks_time axis.start (omega (arith, told.start_in_range)))) refl ∙ ap (λ ws. start ∷ ws) second in
+    let third = slice_split_at is_space places 32 slots (natural_no_space scale (omega (arith, told.scale_in_range))) refl
+    ∙ ap (λ ws. places ∷ ws) last in
+    let second = slice_split_at is_space step 32 (places ++ 32 ∷ slots)
+    (natural_no_space axis.step (omega (arith, told.step_in_range))) refl ∙ ap (λ ws. step ∷ ws) third in
+    let first = slice_split_at is_space start 32 (step ++ 32 ∷ (places ++ 32 ∷ slots))
+    (marks_no_space start (marks_time axis.start (omega (arith, told.start_in_range)))) refl ∙ ap (λ ws. start ∷ ws) second in
     slice_split_at is_space name 32 (axis_row axis scale) (name_no_space name told.named) refl ∙ ap (λ ws. name ∷ ws) first
 
 -- what stands in equal lists of five
-one_of_five : (a b c d e a' b' c' d' e' : List ℕ) → a ∷ b ∷ c ∷ d ∷ e ∷ [] ≡ a' ∷ b' ∷ c' ∷ d' ∷ e' ∷ [] → (a ≡ a') × (b ≡ b') × (c ≡ c') × (d ≡ d') × (e ≡ e')
+one_of_five : (a b c d e a' b' c' d' e' : List ℕ) → a ∷ b ∷ c ∷ d ∷ e ∷ [] ≡ a' ∷ b' ∷ c' ∷ d' ∷ e' ∷ []
+    → (a ≡ a') × (b ≡ b') × (c ≡ c') × (d ≡ d') × (e ≡ e')
 one_of_five a b c d e a' b' c' d' e' same = (cc, cc, cc, cc, cc)
 
 small_start : (z : ℤ) → IsValue z → mag z < 2 ^ 63
@@ -73,8 +79,15 @@ pub one_series : (name other : List ℕ) (axis later : Axis) (scale places : ℕ
 one_series name other axis later scale places told known same =
     let rows = without_feed (series_row name axis scale) (series_row other later places) same in
     let words = sym (row_words name axis scale told) ∙ ap (slice_split is_space) rows ∙ row_words other later places known in
-    let each = one_of_five name (signed_decimal axis.start) (decimal axis.step) (decimal scale) (decimal axis.slots) other (signed_decimal later.start) (decimal later.step) (decimal places) (decimal later.slots) words in
-    let start = signed_decimal_injective axis.start later.start (small_start axis.start told.start_in_range) (small_start later.start known.start_in_range) each.1 in
+    let each = one_of_five name (signed_decimal axis.start) (decimal axis.step) (decimal scale) (decimal axis.slots) other
+    (signed_decimal later.start) (decimal later.step) (decimal places) (decimal later.slots) words in
+    let start = signed_decimal_injective axis.start later.start (small_start axis.start told.start_in_range)
+    (small_start later.start known.start_in_range) each.1 in
     let step = decimal_injective axis.step later.step (omega (arith, told.step_in_range)) (omega (arith, known.step_in_range)) each.2 in
-    let slots = decimal_injective axis.slots later.slots (omega (arith, told.slots_in_range)) (omega (arith, known.slots_in_range)) each.4 in
-    (each.0, one_axis axis later start step slots, decimal_injective scale places (omega (arith, told.scale_in_range)) (omega (arith, known.scale_in_range)) each.3)
+    let slots = decimal_injective axis.slots later.slots (omega (arith, told.slots_in_range))
+    (omega (arith, known.slots_in_range)) each.4 in (
+      each.0,
+      one_axis axis later start step slots,
+      decimal_injective scale places (omega (arith, told.scale_in_range))
+          (omega (arith, known.scale_in_range)) each.3,
+    )

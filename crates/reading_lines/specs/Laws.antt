@@ -18,7 +18,8 @@ abbrev pub SeriesLinesAreWords : Type 0
 SeriesLinesAreWords =
     (name : List ℕ) (axis : Axis) (scale : ℕ)
     → IsTold name axis scale
-    → slice_split is_space (series_row name axis scale) ≡ name ∷ signed_decimal axis.start ∷ decimal axis.step ∷ decimal scale ∷ decimal axis.slots ∷ []
+    → slice_split is_space (series_row name axis scale) ≡ name ∷ signed_decimal axis.start ∷ decimal axis.step ∷ decimal scale ∷ decimal
+    axis.slots ∷ []
 
 -- Two series of one line are the same.
 abbrev pub LinesTellOneSeries : Type 0

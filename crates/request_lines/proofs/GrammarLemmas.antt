@@ -4,7 +4,8 @@ use Rattle.request_lines.specs.Tokens.{Cursor, tokens_left, next_token}
 use Rattle.request_lines.specs.declared.line_errors.LineError.{LineError}
 use Rattle.request_lines.specs.declared.line_errors.LineError.TheVariants.{BadLine, NoMemory}
 use Rattle.request_lines.specs.Requests.{value_of}
-use Rattle.request_lines.specs.Grammar.{Misses, MissesEnd, Ending, nothing, at_most_one, one_or_more, any_behind, allows, fault, ending_fault, first_misfit, Takes}
+use Rattle.request_lines.specs.Grammar.{Misses, MissesEnd, Ending, nothing, at_most_one, one_or_more, any_behind, allows, fault}
+use Rattle.request_lines.specs.Grammar.{ending_fault, first_misfit, Takes}
 use Rattle.request_lines.proofs.TokenLemmas.{tokens_left-there, tokens_left-none}
 
 -- a token that its place allows is passed over
@@ -32,12 +33,14 @@ unfolding fault ending_fault
 fault-end end cursor none = rw none refl
 
 -- a token is left where none may follow
-pub fault-more : (end : ℕ) (cursor : Cursor) → cursor.at ≤ length cursor.line → fault end [] nothing (tokens_left cursor) cursor.at ≡ Some cursor.at
+pub fault-more : (end : ℕ) (cursor : Cursor) → cursor.at ≤ length cursor.line
+    → fault end [] nothing (tokens_left cursor) cursor.at ≡ Some cursor.at
 unfolding fault ending_fault
 fault-more end cursor there = rw (tokens_left-there cursor there) refl
 
 -- no token is left where one may follow
-pub fault-none : (end : ℕ) (place : Place) (cursor : Cursor) → length cursor.line < cursor.at → fault end [] (at_most_one place) (tokens_left cursor) cursor.at ≡ None
+pub fault-none : (end : ℕ) (place : Place) (cursor : Cursor) → length cursor.line < cursor.at
+    → fault end [] (at_most_one place) (tokens_left cursor) cursor.at ≡ None
 unfolding fault ending_fault
 fault-none end place cursor past = rw (tokens_left-none cursor past) refl
 
@@ -48,12 +51,14 @@ unfolding fault ending_fault
 fault-one end place cursor there = rw (tokens_left-there cursor there) refl
 
 -- no token is left where one may follow, with anything behind it
-pub fault-none_behind : (end : ℕ) (place : Place) (cursor : Cursor) → length cursor.line < cursor.at → fault end [] (any_behind place) (tokens_left cursor) cursor.at ≡ None
+pub fault-none_behind : (end : ℕ) (place : Place) (cursor : Cursor) → length cursor.line < cursor.at
+    → fault end [] (any_behind place) (tokens_left cursor) cursor.at ≡ None
 unfolding fault ending_fault
 fault-none_behind end place cursor past = rw (tokens_left-none cursor past) refl
 
 -- a token that may follow is taken, and anything may stand behind it
-pub fault-behind : (end : ℕ) (place : Place) (old new : Cursor) → Takes place old new → fault end [] (any_behind place) (tokens_left old) old.at ≡ None
+pub fault-behind : (end : ℕ) (place : Place) (old new : Cursor) → Takes place old new
+    → fault end [] (any_behind place) (tokens_left old) old.at ≡ None
 unfolding fault ending_fault
 fault-behind end place old new takes = rw (tokens_left-there old takes.there, takes.allowed) refl
 
@@ -63,7 +68,8 @@ fault-other : (end : ℕ) (place : Place) (cursor : Cursor) → cursor.at ≤ le
 unfolding fault ending_fault
 fault-other end place cursor there wrong = rw (tokens_left-there cursor there, wrong) refl
 
-pub misses_behind : (place : Place) (old : Cursor) (error : LineError) → old.at ≤ length old.line → Misses place old error → MissesEnd (any_behind place) old error
+pub misses_behind : (place : Place) (old : Cursor) (error : LineError) → old.at ≤ length old.line → Misses place old error
+    → MissesEnd (any_behind place) old error
 misses_behind place old (BadLine bad) there misses =
     elim misses [
       | inl missing ↦ absurd (omega (arith, missing.0))
@@ -73,7 +79,8 @@ misses_behind place old NoMemory there misses = tt
 
 -- where the next token is missing or wrong, it is at fault
 pub misses-fault : (place : Place) (places : List Place) (ending : Ending) (old : Cursor) (bad : ℕ)
-    → ((length old.line < old.at) × (bad ≡ length old.line)) ⊎ ((old.at ≤ length old.line) × (allows place (next_token old) ≡ false) × (bad ≡ old.at))
+    → ((length old.line < old.at) × (bad ≡ length old.line))
+    ⊎ ((old.at ≤ length old.line) × (allows place (next_token old) ≡ false) × (bad ≡ old.at))
     → fault (length old.line) (place ∷ places) ending (tokens_left old) old.at ≡ Some bad
 misses-fault place places ending old bad misses =
     elim misses [
@@ -100,7 +107,8 @@ unfolding first_misfit
 misfit-wrong place cursor there wrong = rw (tokens_left-there cursor there, wrong) refl
 
 -- no token is left of a list
-pub misfit-none : (place : Place) (cursor : Cursor) → length cursor.line < cursor.at → first_misfit place (tokens_left cursor) cursor.at ≡ None
+pub misfit-none : (place : Place) (cursor : Cursor) → length cursor.line < cursor.at
+    → first_misfit place (tokens_left cursor) cursor.at ≡ None
 unfolding first_misfit
 misfit-none place cursor past = rw (tokens_left-none cursor past) refl
 
@@ -145,12 +153,14 @@ pub takes-line : (place : Place) (old new : Cursor) → Takes place old new → 
 takes-line place old new takes = ap (λ (cursor : Cursor). cursor.line) takes.past
 
 -- a token that may follow isn't what its place allows
-pub misses_one : (place : Place) (old : Cursor) (error : LineError) → old.at ≤ length old.line → Misses place old error → MissesEnd (at_most_one place) old error
+pub misses_one : (place : Place) (old : Cursor) (error : LineError) → old.at ≤ length old.line → Misses place old error
+    → MissesEnd (at_most_one place) old error
 misses_one place old (BadLine bad) there misses = fault-one (length old.line) place old there ∙ misses-fault place [] nothing old bad misses
 misses_one place old NoMemory there misses = tt
 
 -- a token is left after the one that may follow
-pub misses_end_one : (place : Place) (old new : Cursor) (error : LineError) → Takes place old new → MissesEnd nothing new error → MissesEnd (at_most_one place) old error
+pub misses_end_one : (place : Place) (old new : Cursor) (error : LineError) → Takes place old new → MissesEnd nothing new error
+    → MissesEnd (at_most_one place) old error
 misses_end_one place old new (BadLine bad) takes misses =
     fault-one (length old.line) place old takes.there
     ∙ fault-takes (length old.line) place [] nothing old new takes

@@ -30,7 +30,8 @@ integer_not_hyphen token integer =
     decide (bytes_eq token hyphen) refl
 
 -- a token of an append or a set is an integer or a hyphen
-pub named_place : (may_miss : Bool) (token : List ℕ) → allows (value_place may_miss) token ≡ true → (is_integer token || bytes_eq token (codes "-")) ≡ true
+pub named_place : (may_miss : Bool) (token : List ℕ) → allows (value_place may_miss) token ≡ true
+    → (is_integer token || bytes_eq token (codes "-")) ≡ true
 unfolding allows
 named_place true token allowed = allowed
 named_place false token allowed = rw allowed refl

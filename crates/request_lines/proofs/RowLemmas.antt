@@ -1,4 +1,5 @@
-use Rattle.std.proofs.Common.{◌≡◌, ℕ, ℤ, ◌+◌, ◌<◌, List, [], ◌∷◌, ◌++◌, map, length, drop, Option, Some, None, Result, Ok, Err, refl, sym, ap, ◌∙◌, subst, arith}
+use Rattle.std.proofs.Common.{◌≡◌, ℕ, ℤ, ◌+◌, ◌<◌, List, [], ◌∷◌, ◌++◌, map, length, drop, Option, Some, None, Result, Ok, Err, refl, sym}
+use Rattle.std.proofs.Common.{ap, ◌∙◌, subst, arith}
 use Rattle.std.specs.Result.{IsErrAnd, IfOk, IfErr}
 use Rattle.std.proofs.lemmas.Result.{err_from_is_err_and}
 use Rattle.series_book.specs.declared.edits.Edit.TheVariants.{Create, Append, Set, Clear}
@@ -14,7 +15,8 @@ use Rattle.whole_number.specs.Numbers.{natural_value, integer_value}
 use Rattle.request_lines.specs.Ranges.{range_of}
 use Rattle.request_lines.specs.Tokens.{tokens, Cursor, tokens_left, next_token, past_token}
 use Rattle.request_lines.specs.Grammar.{Ending, kind_of, form_of, fault, tokens_fault, fault_of, Takes, Misses, MissesEnd}
-use Rattle.request_lines.specs.Requests.{value_of, create_of, append_of, set_of, clear_of, open_of, view_of, filter_of, zoom_of, pan_of, close_of, request_of, named, Reads, IsRequest, RefusesLine, read_line, ReadsAs}
+use Rattle.request_lines.specs.Requests.{value_of, create_of, append_of, set_of, clear_of, open_of, view_of, filter_of, zoom_of, pan_of}
+use Rattle.request_lines.specs.Requests.{close_of, request_of, named, Reads, IsRequest, RefusesLine, read_line, ReadsAs}
 use Rattle.request_lines.proofs.TokenLemmas.{tokens_left-within, tokens_left-there, tokens_left-none, joined-left}
 use Rattle.request_lines.proofs.GrammarLemmas.{fault-takes, misses-fault}
 
@@ -39,11 +41,13 @@ passed-line (place ∷ passed) start cursor taken =
 
 -- a token that is missing or wrong after some places
 pub reads-misses : (kind : LineKind) (passed : List Place) (place : Place) (places : List Place) (start cursor : Cursor) (error : LineError)
-    → (form_of kind).places ≡ passed ++ place ∷ places → Passed passed start cursor → Misses place cursor error → Reads kind start (Err error)
+    → (form_of kind).places ≡ passed ++ place ∷ places → Passed passed start cursor → Misses place cursor error
+    → Reads kind start (Err error)
 reads-misses kind passed place places start cursor (BadLine bad) form taken misses =
     ap (λ ps. fault (length start.line) ps (form_of kind).ending (tokens_left start) start.at) form
     ∙ passed-fault (length start.line) passed (place ∷ places) (form_of kind).ending start cursor taken
-    ∙ ap (λ line. fault (length line) (place ∷ places) (form_of kind).ending (tokens_left cursor) cursor.at) (sym (passed-line passed start cursor taken))
+    ∙ ap (λ line. fault (length line) (place ∷ places) (form_of kind).ending (tokens_left cursor) cursor.at)
+    (sym (passed-line passed start cursor taken))
     ∙ misses-fault place places (form_of kind).ending cursor bad misses
 reads-misses kind passed place places start cursor NoMemory form taken misses = tt
 
@@ -91,7 +95,18 @@ pub create_is : (c0 c1 c2 c3 c4 : Cursor) (name : List ℕ) (start begun : ℤ) 
     → create_of (tokens_left c0) ≡ Some (EditRequest (Create name begun step scale))
 unfolding create_of
 create_is c0 c1 c2 c3 c4 name start begun step scale t0 t1 t2 t3 none name_is start_is begun_is step_is scale_is =
-    rw (takes-tokens Name c0 c1 t0, takes-tokens Start c1 c2 t1, takes-tokens Step c2 c3 t2, takes-tokens Scale c3 c4 t3, none, begun_is, name_is, start_is, step_is, scale_is) refl
+    rw (
+      takes-tokens Name c0 c1 t0,
+      takes-tokens Start c1 c2 t1,
+      takes-tokens Step c2 c3 t2,
+      takes-tokens Scale c3 c4 t3,
+      none,
+      begun_is,
+      name_is,
+      start_is,
+      step_is,
+      scale_is,
+    ) refl
 
 -- the same after `append`
 pub append_is : (c0 c1 : Cursor) (name : List ℕ) (values : List (Option ℤ)) → Takes Name c0 c1
@@ -115,16 +130,36 @@ pub clear_is : (c0 c1 c2 c3 : Cursor) (name : List ℕ) (time told : ℤ) (count
     → clear_of (tokens_left c0) ≡ Some (EditRequest (Clear name told count))
 unfolding clear_of
 clear_is c0 c1 c2 c3 name time told count t0 t1 t2 none name_is time_is told_is count_is =
-    rw (takes-tokens Name c0 c1 t0, takes-tokens Integer c1 c2 t1, takes-tokens Natural c2 c3 t2, none, told_is, name_is, time_is, count_is) refl
+    rw (
+      takes-tokens Name c0 c1 t0,
+      takes-tokens Integer c1 c2 t1,
+      takes-tokens Natural c2 c3 t2,
+      none,
+      told_is,
+      name_is,
+      time_is,
+      count_is,
+    ) refl
 
 -- the same after `zoom`
 pub zoom_is : (c0 c1 c2 c3 : Cursor) (session : ℕ) (t0 told0 t1 told1 : ℤ)
     → Takes Session c0 c1 → Takes Integer c1 c2 → Takes Integer c2 c3 → tokens_left c3 ≡ []
-    → session ≡ natural_value (next_token c0) → t0 ≡ integer_value (next_token c1) → told0 ≡ t0 → t1 ≡ integer_value (next_token c2) → told1 ≡ t1
+    → session ≡ natural_value (next_token c0) → t0 ≡ integer_value (next_token c1) → told0 ≡ t0 → t1 ≡ integer_value (next_token c2)
+    → told1 ≡ t1
     → zoom_of (tokens_left c0) ≡ Some (Zoom session told0 told1)
 unfolding zoom_of
 zoom_is c0 c1 c2 c3 session t0 told0 t1 told1 k0 k1 k2 none session_is t0_is told0_is t1_is told1_is =
-    rw (takes-tokens Session c0 c1 k0, takes-tokens Integer c1 c2 k1, takes-tokens Integer c2 c3 k2, none, told0_is, told1_is, session_is, t0_is, t1_is) refl
+    rw (
+      takes-tokens Session c0 c1 k0,
+      takes-tokens Integer c1 c2 k1,
+      takes-tokens Integer c2 c3 k2,
+      none,
+      told0_is,
+      told1_is,
+      session_is,
+      t0_is,
+      t1_is,
+    ) refl
 
 -- the same after `pan`
 pub pan_is : (c0 c1 c2 : Cursor) (session : ℕ) (by told : ℤ)
@@ -156,15 +191,35 @@ open_sized c0 c1 c2 session cache t0 t1 none session_is cache_is =
     rw (takes-tokens Session c0 c1 t0, takes-tokens Natural c1 c2 t1, none, session_is, cache_is) refl
 
 -- the same after `view`
-pub view_is : (c0 c1 c2 c3 c4 c5 c6 c7 : Cursor) (session : ℕ) (name : List ℕ) (w h : ℕ) (t0 t0' t1 t1' : ℤ) (range : RangeWord) (filter : Option (List ℕ))
+pub view_is : (c0 c1 c2 c3 c4 c5 c6 c7 : Cursor) (session : ℕ) (name : List ℕ) (w h : ℕ) (t0 t0' t1 t1' : ℤ) (range : RangeWord)
+    (filter : Option (List ℕ))
     → Takes Session c0 c1 → Takes Name c1 c2 → Takes Natural c2 c3 → Takes Natural c3 c4 → Takes Integer c4 c5 → Takes Integer c5 c6
     → Takes Range c6 c7 → filter ≡ filter_of (tokens_left c7)
     → session ≡ natural_value (next_token c0) → name ≡ next_token c1 → w ≡ natural_value (next_token c2) → h ≡ natural_value (next_token c3)
     → t0 ≡ integer_value (next_token c4) → t0' ≡ t0 → t1 ≡ integer_value (next_token c5) → t1' ≡ t1 → range ≡ range_of (next_token c6)
     → view_of (tokens_left c0) ≡ Some (View session name w h t0' t1' range filter)
 unfolding view_of
-view_is c0 c1 c2 c3 c4 c5 c6 c7 session name w h t0 t0' t1 t1' range filter s0 s1 s2 s3 s4 s5 s6 filter_is session_is name_is w_is h_is t0_is t0_told t1_is t1_told range_is =
-    rw (takes-tokens Session c0 c1 s0, takes-tokens Name c1 c2 s1, takes-tokens Natural c2 c3 s2, takes-tokens Natural c3 c4 s3, takes-tokens Integer c4 c5 s4, takes-tokens Integer c5 c6 s5, takes-tokens Range c6 c7 s6, filter_is, session_is, name_is, w_is, h_is, t0_told, t0_is, t1_told, t1_is, range_is) refl
+view_is c0 c1 c2 c3 c4 c5 c6 c7 session name w h t0 t0' t1 t1' range filter s0 s1 s2 s3 s4 s5 s6 filter_is session_is name_is w_is h_is
+    t0_is t0_told t1_is t1_told range_is =
+    rw (
+      takes-tokens Session c0 c1 s0,
+      takes-tokens Name c1 c2 s1,
+      takes-tokens Natural c2 c3 s2,
+      takes-tokens Natural c3 c4 s3,
+      takes-tokens Integer c4 c5 s4,
+      takes-tokens Integer c5 c6 s5,
+      takes-tokens Range c6 c7 s6,
+      filter_is,
+      session_is,
+      name_is,
+      w_is,
+      h_is,
+      t0_told,
+      t0_is,
+      t1_told,
+      t1_is,
+      range_is,
+    ) refl
 
 -- tokens that end a line after some places
 pub passed-ends : (passed : List Place) (ending : Ending) (start cursor : Cursor) → Passed passed start cursor
@@ -185,7 +240,8 @@ tokens-line line = sym (tokens_left-within line 0 (omega arith)) ∙ tokens_left
 
 -- the fault of a line of a kind
 fault_of-kind : (line : List ℕ) (kind : LineKind) → kind_of (next_token (line_start line)) ≡ Some kind
-    → fault_of line ≡ fault (length line) (form_of kind).places (form_of kind).ending (tokens_left (past_token (line_start line))) (past_token (line_start line)).at
+    → fault_of line ≡ fault (length line) (form_of kind).places (form_of kind).ending (tokens_left (past_token (line_start line)))
+    (past_token (line_start line)).at
 unfolding fault_of
 fault_of-kind line kind is =
     let first : 0 + length (next_token (line_start line)) + 1 ≡ length (next_token (line_start line)) + 1 = omega arith in

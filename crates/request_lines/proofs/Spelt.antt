@@ -1,5 +1,6 @@
 -- Numbers, values and ranges as tokens, and the tokens that places allow.
-use Rattle.std.proofs.Common.{◌≡◌, ℕ, ℤ, ◌+◌, ◌-◌, ◌^◌, ◌<◌, ◌≤◌, Bool, true, false, cond, ◌||◌, List, [], ◌∷◌, length, map, Option, Some, None, All, refl, sym, ap, subst, arith}
+use Rattle.std.proofs.Common.{◌≡◌, ℕ, ℤ, ◌+◌, ◌-◌, ◌^◌, ◌<◌, ◌≤◌, Bool, true, false, cond, ◌||◌, List, [], ◌∷◌, length, map, Option, Some}
+use Rattle.std.proofs.Common.{None, All, refl, sym, ap, subst, arith}
 use Rattle.std.specs.Char.{is_ascii_digit}
 use Rattle.std.specs.Str.{bytes_eq}
 use Rattle.std.specs.Fmt.{decimal, signed_decimal}
@@ -22,14 +23,16 @@ use Rattle.whole_number.proofs.Tests.{natural_digits}
 
 -- the texts of numbers pass their tests, and are read as those numbers
 pub integer_back : (z : ℤ) → SpellsInteger (signed_decimal z) z → integer_value (signed_decimal z) ≡ z
-integer_back z spells = one_integer (signed_decimal z) _ z (integer_spelt (signed_decimal z) (spelt_integer (signed_decimal z) z spells)) spells
+integer_back z spells = one_integer (signed_decimal z) _ z
+    (integer_spelt (signed_decimal z) (spelt_integer (signed_decimal z) z spells)) spells
 
 pub natural_back : (n : ℕ) → SpellsNatural (decimal n) n → natural_value (decimal n) ≡ n
 natural_back n spells = one_natural (decimal n) _ n (natural_spelt (decimal n) (spelt_natural (decimal n) n spells)) spells
 
 -- a place's token, and those behind it
 pub first_fits : (end : ℕ) (place : Place) (places : List Place) (ending : Ending) (token : List ℕ) (others : List (List ℕ)) (at : ℕ)
-    → fault end (place ∷ places) ending (token ∷ others) at ≡ None → (allows place token ≡ true) × (fault end places ending others (at + length token + 1) ≡ None)
+    → fault end (place ∷ places) ending (token ∷ others) at ≡ None
+    → (allows place token ≡ true) × (fault end places ending others (at + length token + 1) ≡ None)
 unfolding fault
 first_fits end place places ending token others at h =
     let rest : Option ℕ = fault end places ending others (at + length token + 1) in
@@ -39,7 +42,8 @@ first_fits end place places ending token others at h =
     ] h
 
 pub fits_first : (end : ℕ) (place : Place) (places : List Place) (ending : Ending) (token : List ℕ) (others : List (List ℕ)) (at : ℕ)
-    → allows place token ≡ true → ((at : ℕ) → fault end places ending others at ≡ None) → fault end (place ∷ places) ending (token ∷ others) at ≡ None
+    → allows place token ≡ true → ((at : ℕ) → fault end places ending others at ≡ None)
+    → fault end (place ∷ places) ending (token ∷ others) at ≡ None
 unfolding fault
 fits_first end place places ending token others at allowed rest = rw allowed (rest (at + length token + 1))
 
@@ -63,7 +67,8 @@ first_misfits place token others at allowed rest = rw allowed (rest (at + length
 pub digit_small : (token : List ℕ) → is_digit_token token ≡ true → natural_value token ≤ 9
 digit_small [] digit = absurd (cc)
 digit_small (byte ∷ []) digit =
-    let small : natural_value (byte ∷ []) < 10 ^ 1 = below 1 (byte ∷ []) (natural_digits (byte ∷ []) (digit_natural (byte ∷ []) digit)) (omega arith) in
+    let small : natural_value (byte ∷ []) < 10 ^ 1 = below 1 (byte ∷ []) (natural_digits (byte ∷ []) (digit_natural (byte ∷ []) digit))
+    (omega arith) in
     omega (arith, small)
 digit_small (byte ∷ (next ∷ bytes)) digit = absurd (cc)
 
@@ -112,7 +117,8 @@ pub entries_fit : (values : List (Option ℤ)) → All IsEntry values → (at : 
 unfolding first_misfit
 entries_fit [] all at = refl
 entries_fit (v ∷ values) all at =
-    first_misfits Value (value_text v) (map value_text values) at (entry_allowed v (All-head IsEntry v values all)) (entries_fit values (All-tail IsEntry v values all))
+    first_misfits Value (value_text v) (map value_text values) at (entry_allowed v (All-head IsEntry v values all))
+    (entries_fit values (All-tail IsEntry v values all))
 
 pub entries_values : (values : List (Option ℤ)) → All IsEntry values → map value_of (map value_text values) ≡ values
 entries_values [] all = refl
@@ -148,7 +154,8 @@ pub theres_fit : (values : List (Option ℤ)) → All IsThere values → (at : �
 unfolding first_misfit
 theres_fit [] all at = refl
 theres_fit (v ∷ values) all at =
-    first_misfits Integer (value_text v) (map value_text values) at (there_allowed v (All-head IsThere v values all)) (theres_fit values (All-tail IsThere v values all))
+    first_misfits Integer (value_text v) (map value_text values) at (there_allowed v (All-head IsThere v values all))
+    (theres_fit values (All-tail IsThere v values all))
 
 pub theres_values : (values : List (Option ℤ)) → All IsThere values → map value_of (map value_text values) ≡ values
 theres_values [] all = refl

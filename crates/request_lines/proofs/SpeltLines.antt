@@ -1,5 +1,6 @@
 -- The lines of requests, kind by kind.
-use Rattle.std.proofs.Common.{◌≡◌, ℕ, ℤ, ◌+◌, ◌≤◌, true, false, cond, ◌&&◌, List, [], ◌∷◌, length, map, Option, Some, None, All, refl, sym, ap, subst, ◌∙◌, arith, inl, inr}
+use Rattle.std.proofs.Common.{◌≡◌, ℕ, ℤ, ◌+◌, ◌≤◌, true, false, cond, ◌&&◌, List, [], ◌∷◌, length, map, Option, Some, None, All, refl, sym}
+use Rattle.std.proofs.Common.{ap, subst, ◌∙◌, arith, inl, inr}
 use Rattle.std.specs.Prelude.{nat_le, unsigned_abs, IsTrue, ◌⊎◌, Result, Ok, Err, IfOk}
 use Rattle.request_lines.specs.declared.line_errors.LineError.{LineError}
 use Rattle.request_lines.specs.declared.line_errors.LineError.TheVariants.{BadLine, NoMemory}
@@ -14,20 +15,25 @@ use Rattle.whole_number.specs.Numbers.{is_natural, natural_value, is_integer, in
 use Rattle.whole_number.proofs.Tests.{natural_spelt, spelt_natural, integer_spelt, spelt_integer}
 use Rattle.series_book.specs.Names.{is_name}
 use Rattle.series_book.specs.declared.limits.TheConstants.{GREATEST_START, GREATEST_STEP}
-use Rattle.series_book.specs.declared.edits.Edit.TheVariants.{Create as CreateEdit, Append as AppendEdit, Set as SetEdit, Clear as ClearEdit}
+use Rattle.series_book.specs.declared.edits.Edit.TheVariants.{Create as CreateEdit, Append as AppendEdit, Set as SetEdit}
+use Rattle.series_book.specs.declared.edits.Edit.TheVariants.{Clear as ClearEdit}
 use Rattle.request_lines.specs.declared.places.Place.TheVariants.{Name, Start, Step, Scale, Integer, Value, Natural, Session, Range, Where}
 use Rattle.request_lines.specs.declared.line_kinds.LineKind.{LineKind}
 use Rattle.request_lines.specs.declared.line_kinds.LineKind.TheVariants.{Create, Append, Set, Clear, Open, View, Zoom, Pan, Close}
 use Rattle.request_lines.specs.declared.requests.Request.{Request}
-use Rattle.request_lines.specs.declared.requests.Request.TheVariants.{Edit as EditRequest, Open as OpenRequest, View as ViewRequest, Zoom as ZoomRequest, Pan as PanRequest, Close as CloseRequest}
+use Rattle.request_lines.specs.declared.requests.Request.TheVariants.{Edit as EditRequest, Open as OpenRequest, View as ViewRequest}
+use Rattle.request_lines.specs.declared.requests.Request.TheVariants.{Zoom as ZoomRequest, Pan as PanRequest, Close as CloseRequest}
 use Rattle.request_lines.specs.Ranges.{is_range}
 use Rattle.request_lines.specs.Tokens.{tokens}
-use Rattle.request_lines.specs.Grammar.{nothing, at_most_one, one_or_more, any_behind, allows, kind_of, form_of, fault, ending_fault, kind_fault, tokens_fault, fault_of}
-use Rattle.request_lines.specs.Requests.{create_of, append_of, set_of, clear_of, open_of, view_of, filter_of, zoom_of, pan_of, close_of, request_of, named, kind_request, IsRequest, read_by, read_line, ReadsAs}
+use Rattle.request_lines.specs.Grammar.{nothing, at_most_one, one_or_more, any_behind, allows, kind_of, form_of, fault, ending_fault}
+use Rattle.request_lines.specs.Grammar.{kind_fault, tokens_fault, fault_of}
+use Rattle.request_lines.specs.Requests.{create_of, append_of, set_of, clear_of, open_of, view_of, filter_of, zoom_of, pan_of, close_of}
+use Rattle.request_lines.specs.Requests.{request_of, named, kind_request, IsRequest, read_by, read_line, ReadsAs}
 use Rattle.request_lines.specs.Spelling.{IsNatural, IsInteger, IsSession, value_text, IsEntry, IsThere, SpellsFilter, SpellsWords, Spells}
 use Rattle.request_lines.proofs.NumberLemmas.{digit_natural}
 use Rattle.request_lines.proofs.SpeltRanges.{range_words, range_fit}
-use Rattle.request_lines.proofs.Spelt.{integer_back, natural_back, first_fits, fits_first, digit_small, digit_back, entries_back, entries_fit, entries_values, theres_back, theres_fit, theres_values}
+use Rattle.request_lines.proofs.Spelt.{integer_back, natural_back, first_fits, fits_first, digit_small, digit_back, entries_back}
+use Rattle.request_lines.proofs.Spelt.{entries_fit, entries_values, theres_back, theres_fit, theres_values}
 
 some_same : {X : Type 0} (x y : X) → Some x ≡ Some y → x ≡ y
 some_same x y e = cc
@@ -39,7 +45,8 @@ start_allowed token h =
     let k = and_parts (is_integer token) (nat_le (unsigned_abs (integer_value token)) GREATEST_START) h in
     (k.0, grind (arith, nat_tests, k.1))
 
-step_allowed : (token : List ℕ) → allows Step token ≡ true → (is_natural token ≡ true) × (1 ≤ natural_value token) × (natural_value token ≤ GREATEST_STEP)
+step_allowed : (token : List ℕ) → allows Step token ≡ true
+    → (is_natural token ≡ true) × (1 ≤ natural_value token) × (natural_value token ≤ GREATEST_STEP)
 unfolding allows
 step_allowed token h =
     let k = and_parts (is_natural token && nat_le 1 (natural_value token)) (nat_le (natural_value token) GREATEST_STEP) h in
@@ -57,7 +64,8 @@ name_allowed : (token : List ℕ) → allows Name token ≡ true → IsTrue (is_
 unfolding allows
 name_allowed token h = h
 
-integer_allowed : (token : List ℕ) → allows Integer token ≡ true → (token ≡ signed_decimal (integer_value token)) × IsInteger (integer_value token)
+integer_allowed : (token : List ℕ) → allows Integer token ≡ true
+    → (token ≡ signed_decimal (integer_value token)) × IsInteger (integer_value token)
 unfolding allows
 integer_allowed token h = integer_spelt token h
 
@@ -78,7 +86,8 @@ unfolding allows
 where_allowed token h = (bytes_eq-Decides token (codes "where")).0 h
 
 -- what follows the first word of a line of each kind
-create_words : (end at : ℕ) (others : List (List ℕ)) (r : Request) → fault end (form_of Create).places (form_of Create).ending others at ≡ None → create_of others ≡ Some r
+create_words : (end at : ℕ) (others : List (List ℕ)) (r : Request)
+    → fault end (form_of Create).places (form_of Create).ending others at ≡ None → create_of others ≡ Some r
     → SpellsWords r (codes "create" ∷ others)
 unfolding create_of
 create_words end at [] r h e = absurd (cc)
@@ -97,9 +106,17 @@ create_words end at (a ∷ (b ∷ (c ∷ (d ∷ [])))) r h e =
     let eb : b ≡ signed_decimal (integer_value b) = (integer_spelt b start.0).0 in
     let ec : c ≡ decimal (natural_value c) = (natural_spelt c step.0).0 in
     let P : Request → Type 0 = λ r. SpellsWords r (codes "create" ∷ a ∷ b ∷ c ∷ d ∷ []) in
-    subst P (some_same _ r e) ((λ i. codes "create" ∷ a ∷ eb i ∷ ec i ∷ scale.0 i ∷ []), name_allowed a fa.0, start.1, step.1, step.2, scale.1)
+    subst P (some_same _ r e) (
+      (λ i. codes "create" ∷ a ∷ eb i ∷ ec i ∷ scale.0 i ∷ []),
+      name_allowed a fa.0,
+      start.1,
+      step.1,
+      step.2,
+      scale.1,
+    )
 
-append_words : (end at : ℕ) (others : List (List ℕ)) (r : Request) → fault end (form_of Append).places (form_of Append).ending others at ≡ None → append_of others ≡ Some r
+append_words : (end at : ℕ) (others : List (List ℕ)) (r : Request)
+    → fault end (form_of Append).places (form_of Append).ending others at ≡ None → append_of others ≡ Some r
     → SpellsWords r (codes "append" ∷ others)
 unfolding append_of fault ending_fault
 append_words end at [] r h e = absurd (cc)
@@ -113,7 +130,8 @@ append_words end at (a ∷ (v ∷ vs)) r h e =
     let P : Request → Type 0 = λ r. SpellsWords r (codes "append" ∷ a ∷ v ∷ vs) in
     subst P (some_same _ r e) ((λ i. codes "append" ∷ a ∷ sym values.0 i), name_allowed a fa.0, omega arith, values.1)
 
-set_words : (end at : ℕ) (others : List (List ℕ)) (r : Request) → fault end (form_of Set).places (form_of Set).ending others at ≡ None → set_of others ≡ Some r
+set_words : (end at : ℕ) (others : List (List ℕ)) (r : Request) → fault end (form_of Set).places (form_of Set).ending others at ≡ None
+    → set_of others ≡ Some r
     → SpellsWords r (codes "set" ∷ others)
 unfolding set_of fault ending_fault
 set_words end at [] r h e = absurd (cc)
@@ -133,7 +151,8 @@ set_words end at (a ∷ (b ∷ (v ∷ vs))) r h e =
     let P : Request → Type 0 = λ r. SpellsWords r (codes "set" ∷ a ∷ b ∷ v ∷ vs) in
     subst P (some_same _ r e) ((λ i. codes "set" ∷ a ∷ time.0 i ∷ sym values.0 i), name_allowed a fa.0, time.1, omega arith, values.1)
 
-clear_words : (end at : ℕ) (others : List (List ℕ)) (r : Request) → fault end (form_of Clear).places (form_of Clear).ending others at ≡ None → clear_of others ≡ Some r
+clear_words : (end at : ℕ) (others : List (List ℕ)) (r : Request) → fault end (form_of Clear).places (form_of Clear).ending others at ≡ None
+    → clear_of others ≡ Some r
     → SpellsWords r (codes "clear" ∷ others)
 unfolding clear_of
 clear_words end at [] r h e = absurd (cc)
@@ -149,7 +168,8 @@ clear_words end at (a ∷ (b ∷ (c ∷ []))) r h e =
     let P : Request → Type 0 = λ r. SpellsWords r (codes "clear" ∷ a ∷ b ∷ c ∷ []) in
     subst P (some_same _ r e) ((λ i. codes "clear" ∷ a ∷ time.0 i ∷ count.0 i ∷ []), name_allowed a fa.0, time.1, count.1)
 
-open_words : (end at : ℕ) (others : List (List ℕ)) (r : Request) → fault end (form_of Open).places (form_of Open).ending others at ≡ None → open_of others ≡ Some r
+open_words : (end at : ℕ) (others : List (List ℕ)) (r : Request) → fault end (form_of Open).places (form_of Open).ending others at ≡ None
+    → open_of others ≡ Some r
     → SpellsWords r (codes "open" ∷ others)
 unfolding open_of fault ending_fault
 open_words end at [] r h e = absurd (cc)
@@ -169,16 +189,19 @@ open_words end at (a ∷ (b ∷ [])) r h e =
     let P : Request → Type 0 = λ r. SpellsWords r (codes "open" ∷ a ∷ b ∷ []) in
     subst P (some_same _ r e) ((λ i. codes "open" ∷ ea i ∷ cache.0 i ∷ []), session.1, cache.1)
 
-filter_words : (end at : ℕ) (others : List (List ℕ)) → fault end [] (any_behind Where) others at ≡ None → SpellsFilter (filter_of others) others
+filter_words : (end at : ℕ) (others : List (List ℕ)) → fault end [] (any_behind Where) others at ≡ None
+    → SpellsFilter (filter_of others) others
 unfolding fault ending_fault filter_of
 filter_words end at [] h = refl
 filter_words end at (word ∷ rest) h =
-    elim (allows Where word) as (λ b. allows Where word ≡ b → cond b None (Some at) ≡ None → SpellsFilter (filter_of (word ∷ rest)) (word ∷ rest)) [
+    elim (allows Where word) as (λ b. allows Where word ≡ b → cond b None (Some at) ≡ None
+    → SpellsFilter (filter_of (word ∷ rest)) (word ∷ rest)) [
       | true ↦ λ allowed _. (rest, (λ i. where_allowed word allowed i ∷ rest), refl)
       | false ↦ λ _ e. absurd (cc)
     ] refl h
 
-view_words : (end at : ℕ) (others : List (List ℕ)) (r : Request) → fault end (form_of View).places (form_of View).ending others at ≡ None → view_of others ≡ Some r
+view_words : (end at : ℕ) (others : List (List ℕ)) (r : Request) → fault end (form_of View).places (form_of View).ending others at ≡ None
+    → view_of others ≡ Some r
     → SpellsWords r (codes "view" ∷ others)
 unfolding view_of
 view_words end at [] r h e = absurd (cc)
@@ -189,8 +212,10 @@ view_words end at (a ∷ (b ∷ (c ∷ (d ∷ [])))) r h e = absurd (cc)
 view_words end at (a ∷ (b ∷ (c ∷ (d ∷ (x ∷ []))))) r h e = absurd (cc)
 view_words end at (a ∷ (b ∷ (c ∷ (d ∷ (x ∷ (y ∷ [])))))) r h e = absurd (cc)
 view_words end at (a ∷ (b ∷ (c ∷ (d ∷ (x ∷ (y ∷ (z ∷ others))))))) r h e =
-    let fa = first_fits end Session (Name ∷ Natural ∷ Natural ∷ Integer ∷ Integer ∷ Range ∷ []) (any_behind Where) a (b ∷ c ∷ d ∷ x ∷ y ∷ z ∷ others) at h in
-    let fb = first_fits end Name (Natural ∷ Natural ∷ Integer ∷ Integer ∷ Range ∷ []) (any_behind Where) b (c ∷ d ∷ x ∷ y ∷ z ∷ others) _ fa.1 in
+    let fa = first_fits end Session (Name ∷ Natural ∷ Natural ∷ Integer ∷ Integer ∷ Range ∷ []) (any_behind Where) a
+    (b ∷ c ∷ d ∷ x ∷ y ∷ z ∷ others) at h in
+    let fb = first_fits end Name (Natural ∷ Natural ∷ Integer ∷ Integer ∷ Range ∷ []) (any_behind Where) b
+    (c ∷ d ∷ x ∷ y ∷ z ∷ others) _ fa.1 in
     let fc = first_fits end Natural (Natural ∷ Integer ∷ Integer ∷ Range ∷ []) (any_behind Where) c (d ∷ x ∷ y ∷ z ∷ others) _ fb.1 in
     let fd = first_fits end Natural (Integer ∷ Integer ∷ Range ∷ []) (any_behind Where) d (x ∷ y ∷ z ∷ others) _ fc.1 in
     let fx = first_fits end Integer (Integer ∷ Range ∷ []) (any_behind Where) x (y ∷ z ∷ others) _ fd.1 in
@@ -217,7 +242,8 @@ view_words end at (a ∷ (b ∷ (c ∷ (d ∷ (x ∷ (y ∷ (z ∷ others)))))))
       filter_words end _ others fz.1,
     )
 
-zoom_words : (end at : ℕ) (others : List (List ℕ)) (r : Request) → fault end (form_of Zoom).places (form_of Zoom).ending others at ≡ None → zoom_of others ≡ Some r
+zoom_words : (end at : ℕ) (others : List (List ℕ)) (r : Request) → fault end (form_of Zoom).places (form_of Zoom).ending others at ≡ None
+    → zoom_of others ≡ Some r
     → SpellsWords r (codes "zoom" ∷ others)
 unfolding zoom_of
 zoom_words end at [] r h e = absurd (cc)
@@ -235,7 +261,8 @@ zoom_words end at (a ∷ (b ∷ (c ∷ []))) r h e =
     let P : Request → Type 0 = λ r. SpellsWords r (codes "zoom" ∷ a ∷ b ∷ c ∷ []) in
     subst P (some_same _ r e) ((λ i. codes "zoom" ∷ ea i ∷ t0.0 i ∷ t1.0 i ∷ []), session.1, t0.1, t1.1)
 
-pan_words : (end at : ℕ) (others : List (List ℕ)) (r : Request) → fault end (form_of Pan).places (form_of Pan).ending others at ≡ None → pan_of others ≡ Some r
+pan_words : (end at : ℕ) (others : List (List ℕ)) (r : Request) → fault end (form_of Pan).places (form_of Pan).ending others at ≡ None
+    → pan_of others ≡ Some r
     → SpellsWords r (codes "pan" ∷ others)
 unfolding pan_of
 pan_words end at [] r h e = absurd (cc)
@@ -250,7 +277,8 @@ pan_words end at (a ∷ (b ∷ [])) r h e =
     let P : Request → Type 0 = λ r. SpellsWords r (codes "pan" ∷ a ∷ b ∷ []) in
     subst P (some_same _ r e) ((λ i. codes "pan" ∷ ea i ∷ by.0 i ∷ []), session.1, by.1)
 
-close_words : (end at : ℕ) (others : List (List ℕ)) (r : Request) → fault end (form_of Close).places (form_of Close).ending others at ≡ None → close_of others ≡ Some r
+close_words : (end at : ℕ) (others : List (List ℕ)) (r : Request) → fault end (form_of Close).places (form_of Close).ending others at ≡ None
+    → close_of others ≡ Some r
     → SpellsWords r (codes "close" ∷ others)
 unfolding close_of
 close_words end at [] r h e = absurd (cc)
@@ -274,7 +302,8 @@ word_of Zoom = codes "zoom"
 word_of Pan = codes "pan"
 word_of Close = codes "close"
 
-kind_words : (kind : LineKind) (end at : ℕ) (others : List (List ℕ)) (r : Request) → fault end (form_of kind).places (form_of kind).ending others at ≡ None → request_of kind others ≡ Some r
+kind_words : (kind : LineKind) (end at : ℕ) (others : List (List ℕ)) (r : Request)
+    → fault end (form_of kind).places (form_of kind).ending others at ≡ None → request_of kind others ≡ Some r
     → SpellsWords r (word_of kind ∷ others)
 kind_words Create = create_words
 kind_words Append = append_words
@@ -286,7 +315,8 @@ kind_words Zoom = zoom_words
 kind_words Pan = pan_words
 kind_words Close = close_words
 
-pick : (word : List ℕ) (k kind : LineKind) (rest : Option LineKind) → cond (bytes_eq word (word_of k)) (Some k) rest ≡ Some kind → (rest ≡ Some kind → word ≡ word_of kind)
+pick : (word : List ℕ) (k kind : LineKind) (rest : Option LineKind) → cond (bytes_eq word (word_of k)) (Some k) rest ≡ Some kind
+    → (rest ≡ Some kind → word ≡ word_of kind)
     → word ≡ word_of kind
 pick word k kind rest h others =
     elim (bytes_eq word (word_of k)) as (λ b. bytes_eq word (word_of k) ≡ b → cond b (Some k) rest ≡ Some kind → word ≡ word_of kind) [
@@ -297,13 +327,16 @@ pick word k kind rest h others =
 word_is : (word : List ℕ) (kind : LineKind) → kind_of word ≡ Some kind → word ≡ word_of kind
 unfolding kind_of
 word_is word kind h =
-    pick word Create kind _ h (λ h. pick word Append kind _ h (λ h. pick word Set kind _ h (λ h. pick word Clear kind _ h (λ h. pick word Open kind _ h
-    (λ h. pick word View kind _ h (λ h. pick word Zoom kind _ h (λ h. pick word Pan kind _ h (λ h. pick word Close kind _ h (λ h. absurd (cc))))))))))
+    pick word Create kind _ h (λ h. pick word Append kind _ h
+    (λ h. pick word Set kind _ h (λ h. pick word Clear kind _ h (λ h. pick word Open kind _ h
+    (λ h. pick word View kind _ h (λ h. pick word Zoom kind _ h
+    (λ h. pick word Pan kind _ h (λ h. pick word Close kind _ h (λ h. absurd (cc))))))))))
 
 line_words : (end : ℕ) (words : List (List ℕ)) (r : Request) → tokens_fault end words ≡ None → named words ≡ Some r → SpellsWords r words
 line_words end [] r h e = absurd (cc)
 line_words end (word ∷ others) r h e =
-    elim (kind_of word) as (λ k. kind_of word ≡ k → kind_fault end k others (length word + 1) ≡ None → kind_request k others ≡ Some r → SpellsWords r (word ∷ others)) [
+    elim (kind_of word) as (λ k. kind_of word ≡ k → kind_fault end k others (length word + 1) ≡ None → kind_request k others ≡ Some r
+    → SpellsWords r (word ∷ others)) [
       | None ↦ λ _ f e. absurd (cc)
       | Some kind ↦ λ is f e.
           let P : List ℕ → Type 0 = λ w. SpellsWords r (w ∷ others) in
@@ -339,7 +372,8 @@ allow_start z small =
     and_from (is_integer (signed_decimal z)) (nat_le (unsigned_abs (integer_value (signed_decimal z))) GREATEST_START)
     (spelt_integer (signed_decimal z) z (refl, integer)) (subst P (sym (integer_back z (refl, integer))) within)
 
-between : (n most : ℕ) → IsNatural n → 1 ≤ n → n ≤ most → (is_natural (decimal n) && nat_le 1 (natural_value (decimal n)) && nat_le (natural_value (decimal n)) most) ≡ true
+between : (n most : ℕ) → IsNatural n → 1 ≤ n → n ≤ most
+    → (is_natural (decimal n) && nat_le 1 (natural_value (decimal n)) && nat_le (natural_value (decimal n)) most) ≡ true
 between n most small low high =
     let P : ℕ → Type 0 = λ m. nat_le 1 m ≡ true in
     let Q : ℕ → Type 0 = λ m. nat_le m most ≡ true in
@@ -347,7 +381,8 @@ between n most small low high =
     let to : nat_le n most ≡ true = grind (arith, nat_tests, high) in
     let back : n ≡ natural_value (decimal n) = sym (natural_back n (refl, small)) in
     and_from (is_natural (decimal n) && nat_le 1 (natural_value (decimal n))) (nat_le (natural_value (decimal n)) most)
-    (and_from (is_natural (decimal n)) (nat_le 1 (natural_value (decimal n))) (spelt_natural (decimal n) n (refl, small)) (subst P back from))
+    (and_from (is_natural (decimal n)) (nat_le 1 (natural_value (decimal n))) (spelt_natural (decimal n) n (refl, small))
+    (subst P back from))
     (subst Q back to)
 
 allow_step : (n : ℕ) → 1 ≤ n → n ≤ GREATEST_STEP → allows Step (decimal n) ≡ true
@@ -386,17 +421,20 @@ cache_ends : (end : ℕ) (token : List ℕ) (at : ℕ) → allows Natural token 
 unfolding fault ending_fault
 cache_ends end token at h = rw h refl
 
-entries_end : (end : ℕ) (values : List (Option ℤ)) → 1 ≤ length values → All IsEntry values → (at : ℕ) → fault end [] (one_or_more Value) (map value_text values) at ≡ None
+entries_end : (end : ℕ) (values : List (Option ℤ)) → 1 ≤ length values → All IsEntry values → (at : ℕ)
+    → fault end [] (one_or_more Value) (map value_text values) at ≡ None
 unfolding fault ending_fault
 entries_end end [] some all at = absurd (omega (arith, some))
 entries_end end (v ∷ values) some all at = entries_fit (v ∷ values) all at
 
-theres_end : (end : ℕ) (values : List (Option ℤ)) → 1 ≤ length values → All IsThere values → (at : ℕ) → fault end [] (one_or_more Integer) (map value_text values) at ≡ None
+theres_end : (end : ℕ) (values : List (Option ℤ)) → 1 ≤ length values → All IsThere values → (at : ℕ)
+    → fault end [] (one_or_more Integer) (map value_text values) at ≡ None
 unfolding fault ending_fault
 theres_end end [] some all at = absurd (omega (arith, some))
 theres_end end (v ∷ values) some all at = theres_fit (v ∷ values) all at
 
-filter_end : (filter : Option (List ℕ)) (others : List (List ℕ)) → SpellsFilter filter others → (end at : ℕ) → fault end [] (any_behind Where) others at ≡ None
+filter_end : (filter : Option (List ℕ)) (others : List (List ℕ)) → SpellsFilter filter others → (end at : ℕ)
+    → fault end [] (any_behind Where) others at ≡ None
 unfolding fault ending_fault
 filter_end None others h end at = let P : List (List ℕ) → Type 0 = λ l. fault end [] (any_behind Where) l at ≡ None in subst P (sym h) refl
 filter_end (Some text) others h end at =
@@ -426,7 +464,8 @@ fits : (kind : LineKind) (others words : List (List ℕ)) (r : Request) (end : �
     → ((at : ℕ) → fault end (form_of kind).places (form_of kind).ending others at ≡ None) → request_of kind others ≡ Some r
     → (tokens_fault end words ≡ None) × (named words ≡ Some r)
 fits kind others words r end is no_fault named_so =
-    let P : Option LineKind → Type 0 = λ k. (kind_fault end k others (length (word_of kind) + 1) ≡ None) × (kind_request k others ≡ Some r) in
+    let P : Option LineKind → Type 0 = λ k. (kind_fault end k others (length (word_of kind) + 1) ≡ None)
+    × (kind_request k others ≡ Some r) in
     let Q : List (List ℕ) → Type 0 = λ l. (tokens_fault end l ≡ None) × (named l ≡ Some r) in
     subst Q (sym is) (subst P (sym (kind_back kind)) (no_fault (length (word_of kind) + 1), named_so))
 
@@ -452,7 +491,8 @@ words_fit (EditRequest (SetEdit name time values)) words end h =
     let ev = theres_values values h.4 in
     fits Set (name ∷ signed_decimal time ∷ map value_text values) words _ end h.0
     (λ at. fits_first end Name (Integer ∷ []) (one_or_more Integer) name _ at (allow_name name h.1)
-    (λ at. fits_first end Integer [] (one_or_more Integer) (signed_decimal time) _ at (allow_integer time h.2) (theres_end end values h.3 h.4)))
+    (λ at. fits_first end Integer [] (one_or_more Integer) (signed_decimal time) _ at (allow_integer time h.2)
+    (theres_end end values h.3 h.4)))
     (λ i. Some (EditRequest (SetEdit name (eb i) (ev i))))
 words_fit (EditRequest (ClearEdit name time count)) words end h =
     let eb = integer_back time (refl, h.2) in
@@ -483,7 +523,8 @@ words_fit (ViewRequest session name w k t0 t1 range filter) words end h =
     let ef = filter_named filter h.1 h.10 in
     let er = range_fit range h.0 h.9 in
     fits View (decimal session ∷ name ∷ decimal w ∷ decimal k ∷ signed_decimal t0 ∷ signed_decimal t1 ∷ h.0 ∷ h.1) words _ end h.2
-    (λ at. fits_first end Session (Name ∷ Natural ∷ Natural ∷ Integer ∷ Integer ∷ Range ∷ []) (any_behind Where) (decimal session) _ at (allow_session session h.3)
+    (λ at. fits_first end Session (Name ∷ Natural ∷ Natural ∷ Integer ∷ Integer ∷ Range ∷ []) (any_behind Where) (decimal session) _ at
+    (allow_session session h.3)
     (λ at. fits_first end Name (Natural ∷ Natural ∷ Integer ∷ Integer ∷ Range ∷ []) (any_behind Where) name _ at (allow_name name h.4)
     (λ at. fits_first end Natural (Natural ∷ Integer ∷ Integer ∷ Range ∷ []) (any_behind Where) (decimal w) _ at (allow_natural w h.5)
     (λ at. fits_first end Natural (Integer ∷ Integer ∷ Range ∷ []) (any_behind Where) (decimal k) _ at (allow_natural k h.6)
@@ -523,7 +564,8 @@ pub spells_one : (line : List ℕ) (r s : Request) → Spells r line → Spells 
 spells_one line r s first second = some_same r s (sym (spells_request line r first).named_so ∙ (spells_request line s second).named_so)
 
 -- what is read of a line that spells a request
-pub only_read : (line : List ℕ) (r : Request) (answer : Result Request LineError) → Spells r line → ReadsAs (read_line line) answer → (answer ≡ Ok r) ⊎ (answer ≡ Err NoMemory)
+pub only_read : (line : List ℕ) (r : Request) (answer : Result Request LineError) → Spells r line → ReadsAs (read_line line) answer
+    → (answer ≡ Ok r) ⊎ (answer ≡ Err NoMemory)
 unfolding read_line
 only_read line r answer spells reads =
     let h = spells_request line r spells in

@@ -1,4 +1,5 @@
-use Rattle.std.proofs.Common.{◌≡◌, ℕ, ◌+◌, ◌-◌, ◌<◌, ◌≤◌, Bool, true, false, cond, ltb, leb, List, [], ◌∷◌, length, take, drop, Some, None, refl, sym, subst, ap, ◌∙◌, inl, inr, All, arith}
+use Rattle.std.proofs.Common.{◌≡◌, ℕ, ◌+◌, ◌-◌, ◌<◌, ◌≤◌, Bool, true, false, cond, ltb, leb, List, [], ◌∷◌, length, take, drop, Some, None}
+use Rattle.std.proofs.Common.{refl, sym, subst, ap, ◌∙◌, inl, inr, All, arith}
 use Rattle.std.specs.List.{slice_split, before_first, after_first, position_or_len, join_with_byte}
 use Rattle.std.proofs.lemmas.Bool.Decides.{nat_tests}
 use Rattle.std.proofs.lemmas.Bool.{cases_lt}
@@ -16,7 +17,8 @@ pub place_missing : (n m : ℕ) → None ≡ cond (ltb n m) (Some n) None → m 
 place_missing n m missing = grind (arith, nat_tests)
 
 -- the tokens that are left within a line
-pub tokens_left-within : (line : List ℕ) (at : ℕ) → at ≤ length line → tokens_left (record { line = line; at = at }) ≡ slice_split is_space (drop at line)
+pub tokens_left-within : (line : List ℕ) (at : ℕ) → at ≤ length line
+    → tokens_left (record { line = line; at = at }) ≡ slice_split is_space (drop at line)
 unfolding tokens_left
 tokens_left-within line at there = let test : leb at (length line) ≡ true = grind (arith, nat_tests) in rw test refl
 
@@ -59,7 +61,8 @@ split_none line at there spaceless =
     ∙ ap (λ others. first ∷ others) (sym (tokens_left-none (record { line = line; at = at + length first + 1 }) past))
 
 -- the tokens that are left are the next one and those past it
-pub tokens_left-there : (cursor : Cursor) → cursor.at ≤ length cursor.line → tokens_left cursor ≡ next_token cursor ∷ tokens_left (past_token cursor)
+pub tokens_left-there : (cursor : Cursor) → cursor.at ≤ length cursor.line
+    → tokens_left cursor ≡ next_token cursor ∷ tokens_left (past_token cursor)
 tokens_left-there cursor there =
     elim (cases_lt (position_or_len is_space (drop cursor.at cursor.line)) (length (drop cursor.at cursor.line))) [
       | inl spaced ↦ split_at_space cursor.line cursor.at there spaced
@@ -71,7 +74,8 @@ pub joined-left : (cursor : Cursor) → join_with_byte 32 (tokens_left cursor) �
 joined-left cursor =
     elim (cases_lt (length cursor.line) cursor.at) [
       | inl past ↦ ap (join_with_byte 32) (tokens_left-none cursor past) ∙ sym (drop_all cursor.at cursor.line (omega (arith, past)))
-      | inr there ↦ ap (join_with_byte 32) (tokens_left-within cursor.line cursor.at there) ∙ join_with_byte-slice_split 32 (drop cursor.at cursor.line)
+      | inr there ↦ ap (join_with_byte 32) (tokens_left-within cursor.line cursor.at there)
+          ∙ join_with_byte-slice_split 32 (drop cursor.at cursor.line)
     ]
 
 -- a test that fails
@@ -83,7 +87,8 @@ beyond b n m holds fails =
     ]
 
 -- a space ends the first token
-pub cut_found : (line : List ℕ) (place : ℕ) → position_or_len is_space line ≡ place → place < length line → tokens line ≡ take place line ∷ tokens (drop (place + 1) line)
+pub cut_found : (line : List ℕ) (place : ℕ) → position_or_len is_space line ≡ place → place < length line
+    → tokens line ≡ take place line ∷ tokens (drop (place + 1) line)
 cut_found line place is within =
     let P : ℕ → Type 0 = λ n. tokens line ≡ take n line ∷ tokens (drop (n + 1) line) in
     subst P is (slice_split_first is_space line 0 (omega (arith, is, within)))

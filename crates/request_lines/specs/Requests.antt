@@ -1,4 +1,5 @@
-use Rattle.std.specs.Prelude.{◌≡◌, ℕ, ℤ, ◌≤◌, if◌then◌else◌, List, [], ◌∷◌, map, length, Option, None, Some, IfSome, Result, Ok, Err, IsTrue, codes, ⊤}
+use Rattle.std.specs.Prelude.{◌≡◌, ℕ, ℤ, ◌≤◌, if◌then◌else◌, List, [], ◌∷◌, map, length, Option, None, Some, IfSome, Result, Ok, Err}
+use Rattle.std.specs.Prelude.{IsTrue, codes, ⊤}
 use Rattle.std.specs.Str.{bytes_eq}
 use Rattle.std.specs.List.{join_with_byte}
 use Rattle.series_book.specs.declared.edits.Edit.TheVariants.{Create, Append, Set, Clear}
@@ -12,7 +13,9 @@ use Rattle.whole_number.specs.Numbers.{natural_value, integer_value}
 use Rattle.request_lines.specs.Ranges.{range_of}
 use Rattle.request_lines.specs.Tokens.{tokens, Cursor, tokens_left}
 use Rattle.request_lines.specs.declared.line_kinds.LineKind.{LineKind}
-use Rattle.request_lines.specs.declared.line_kinds.LineKind.TheVariants.{Create as CreateLine, Append as AppendLine, Set as SetLine, Clear as ClearLine, Open as OpenLine, View as ViewLine, Zoom as ZoomLine, Pan as PanLine, Close as CloseLine}
+use Rattle.request_lines.specs.declared.line_kinds.LineKind.TheVariants.{Create as CreateLine, Append as AppendLine, Set as SetLine}
+use Rattle.request_lines.specs.declared.line_kinds.LineKind.TheVariants.{Clear as ClearLine, Open as OpenLine, View as ViewLine}
+use Rattle.request_lines.specs.declared.line_kinds.LineKind.TheVariants.{Zoom as ZoomLine, Pan as PanLine, Close as CloseLine}
 use Rattle.request_lines.specs.Grammar.{kind_of, form_of, fault, fault_of}
 
 -- the value that a token of an append or a set names: a hyphen alone is a missing slot
@@ -55,7 +58,8 @@ filter_of (word ∷ others) = Some (join_with_byte 32 others)
 -- the request that the tokens after `view` name
 unfoldable pub view_of : List (List ℕ) → Option Request
 view_of (session ∷ name ∷ w ∷ h ∷ t0 ∷ t1 ∷ range ∷ others) =
-    Some (View (natural_value session) name (natural_value w) (natural_value h) (integer_value t0) (integer_value t1) (range_of range) (filter_of others))
+    Some (View (natural_value session) name (natural_value w) (natural_value h) (integer_value t0) (integer_value t1) (range_of range)
+    (filter_of others))
 view_of _ = None
 
 -- the request that the tokens after `zoom` name

@@ -1,8 +1,10 @@
-ghost use Rattle.std.specs.Prelude.{◌≡◌, ◌+◌, ◌^◌, ◌<◌, ◌≤◌, ◌++◌, length, map, IfOk, IfErr, ◌↔◌, ◌||◌, [], ◌∷◌, drop, IsTrue, IsSome, IfSome, OnOk, All, None, false, unsigned_abs, codes};
+ghost use Rattle.std.specs.Prelude.{◌≡◌, ◌+◌, ◌^◌, ◌<◌, ◌≤◌, ◌++◌, length, map, IfOk, IfErr, ◌↔◌, ◌||◌, [], ◌∷◌, drop, IsTrue, IsSome};
+ghost use Rattle.std.specs.Prelude.{IfSome, OnOk, All, None, false, unsigned_abs, codes};
 ghost use Rattle.std.specs.Str.{bytes_eq};
 ghost use Rattle.series_book.specs.Names.{is_name};
 ghost use Rattle.series_book.specs.declared.limits.TheConstants.{GREATEST_START, GREATEST_STEP, GREATEST_SCALE};
-ghost use Rattle.request_lines.specs.declared.places.Place.TheVariants.{Name as NamePlace, Start, Step, Scale, Integer, Value, Natural, Session, Range, Where};
+ghost use Rattle.request_lines.specs.declared.places.Place.TheVariants.{Name as NamePlace, Start, Step, Scale, Integer, Value, Natural};
+ghost use Rattle.request_lines.specs.declared.places.Place.TheVariants.{Session, Range, Where};
 ghost use Rattle.whole_number.specs.Numbers.{is_integer, natural_value, integer_value};
 ghost use Rattle.request_lines.specs.Ranges.{range_of};
 ghost use Rattle.request_lines.specs.Tokens.{tokens_left, next_token, past_token};
@@ -103,7 +105,8 @@ impl<'a> Reader<'a> {
     /// Takes an integer of a start.
     #[tactic(auto, unfolding(crate::specs::Grammar::allows))]
     pub(crate) fn start(&mut self) -> Result<i64, LineError>
-        ensures ok { IfOk result (λ start. Takes Start self.old self.new × (start ≡ integer_value (next_token self.old)) × (unsigned_abs start ≤ GREATEST_START)) }
+        ensures ok { IfOk result (λ start. Takes Start self.old self.new × (start ≡ integer_value (next_token self.old))
+            × (unsigned_abs start ≤ GREATEST_START)) }
         ensures err { IfErr result (Misses Start self.old) }
     {
         let token = self.token(Place::Start)?;
@@ -113,7 +116,8 @@ impl<'a> Reader<'a> {
     /// Takes a natural number of a step.
     #[tactic(auto, unfolding(crate::specs::Grammar::allows))]
     pub(crate) fn step(&mut self) -> Result<u32, LineError>
-        ensures ok { IfOk result (λ step. Takes Step self.old self.new × (step ≡ natural_value (next_token self.old)) × (1 ≤ step) × (step ≤ GREATEST_STEP)) }
+        ensures ok { IfOk result (λ step. Takes Step self.old self.new × (step ≡ natural_value (next_token self.old)) × (1 ≤ step)
+            × (step ≤ GREATEST_STEP)) }
         ensures err { IfErr result (Misses Step self.old) }
     {
         let token = self.token(Place::Step)?;
@@ -123,7 +127,8 @@ impl<'a> Reader<'a> {
     /// Takes the digit of a scale.
     #[tactic(auto, unfolding(crate::specs::Grammar::allows))]
     pub(crate) fn scale(&mut self) -> Result<u8, LineError>
-        ensures ok { IfOk result (λ scale. Takes Scale self.old self.new × (scale ≡ natural_value (next_token self.old)) × (scale ≤ GREATEST_SCALE)) }
+        ensures ok { IfOk result (λ scale. Takes Scale self.old self.new × (scale ≡ natural_value (next_token self.old))
+            × (scale ≤ GREATEST_SCALE)) }
         ensures err { IfErr result (Misses Scale self.old) }
     {
         let token = self.token(Place::Scale)?;
@@ -133,7 +138,8 @@ impl<'a> Reader<'a> {
     /// Takes an integer.
     #[tactic(auto, unfolding(crate::specs::Grammar::allows))]
     pub(crate) fn integer(&mut self) -> Result<i128, LineError>
-        ensures ok { IfOk result (λ integer. Takes Integer self.old self.new × (integer ≡ integer_value (next_token self.old)) × (unsigned_abs integer < 10 ^ 19)) }
+        ensures ok { IfOk result (λ integer. Takes Integer self.old self.new × (integer ≡ integer_value (next_token self.old))
+            × (unsigned_abs integer < 10 ^ 19)) }
         ensures err { IfErr result (Misses Integer self.old) }
     {
         let token = self.token(Place::Integer)?;
@@ -153,7 +159,8 @@ impl<'a> Reader<'a> {
     /// Takes the number of a session.
     #[tactic(auto, unfolding(crate::specs::Grammar::allows))]
     pub(crate) fn session(&mut self) -> Result<u32, LineError>
-        ensures ok { IfOk result (λ session. Takes Session self.old self.new × (session ≡ natural_value (next_token self.old)) × (1 ≤ session) × (session ≤ 4294967295)) }
+        ensures ok { IfOk result (λ session. Takes Session self.old self.new × (session ≡ natural_value (next_token self.old))
+            × (1 ≤ session) × (session ≤ 4294967295)) }
         ensures err { IfErr result (Misses Session self.old) }
     {
         let token = self.token(Place::Session)?;
@@ -172,7 +179,8 @@ impl<'a> Reader<'a> {
 
     /// Takes all tokens that are left, one at least, as values; missing ones only where they may be.
     pub(crate) fn values(&mut self, alloc: Global, may_miss: bool) -> Result<Values, LineError>
-        ensures ok { IfOk result (λ values. (fault (length self.old.line) [] (one_or_more (value_place may_miss)) (tokens_left self.old) self.old.at ≡ None)
+        ensures ok { IfOk result (λ values. (fault (length self.old.line) [] (one_or_more (value_place may_miss))
+            (tokens_left self.old) self.old.at ≡ None)
             × (values ≡ map value_of (tokens_left self.old))) }
         ensures some { IfOk result (λ values. 0 < length values) }
         ensures there { may_miss ≡ false → IfOk result (λ values. All (λ value. IsSome value) values) }
@@ -192,7 +200,8 @@ impl<'a> Reader<'a> {
         may_miss: bool,
         values: &mut Vec<Option<i128>>,
     ) -> Result<(), LineError>
-        ensures ok { OnOk result (Takes (value_place may_miss) self.old self.new × (values.new.items ≡ values.old.items ++ value_of (next_token self.old) ∷ [])) }
+        ensures ok { OnOk result (Takes (value_place may_miss) self.old self.new
+            × (values.new.items ≡ values.old.items ++ value_of (next_token self.old) ∷ [])) }
         ensures there { may_miss ≡ false → OnOk result (IsSome (value_of (next_token self.old))) }
         ensures err { IfErr result (Misses (value_place may_miss) self.old) }
     {
@@ -203,7 +212,8 @@ impl<'a> Reader<'a> {
 
     /// Takes the word `where` and the filter's text behind it, where a token is left.
     pub(crate) fn filter(&mut self, alloc: Global) -> Result<Option<FilterText>, LineError>
-        ensures ok { IfOk result (λ filter. (fault (length self.old.line) [] (any_behind Where) (tokens_left self.old) self.old.at ≡ None) × (filter ≡ filter_of (tokens_left self.old))) }
+        ensures ok { IfOk result (λ filter. (fault (length self.old.line) [] (any_behind Where) (tokens_left self.old) self.old.at ≡ None)
+            × (filter ≡ filter_of (tokens_left self.old))) }
         ensures short { IfOk result (λ filter. IfSome filter (λ text. length text ≤ 8192)) }
         ensures err { IfErr result (MissesEnd (any_behind Where) self.old) }
     {

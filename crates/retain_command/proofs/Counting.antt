@@ -10,7 +10,8 @@ use Rattle.run_ends.specs.declared.ending.End.{End}
 use Rattle.retain_command.specs.Doing.{end_at}
 
 -- a sweep that wasn't done
-pub sweep_counts : (at : ℕ) (error : SweepError) (end : End) (old new : View) → end ≡ end_at at error → CountsFault (sweep_fault error) old new → CountsFault (end_fault end) old new
+pub sweep_counts : (at : ℕ) (error : SweepError) (end : End) (old new : View) → end ≡ end_at at error
+    → CountsFault (sweep_fault error) old new → CountsFault (end_fault end) old new
 sweep_counts at error end old new is counts =
     let E : End → Type 0 = λ e. CountsFault (end_fault e) old new in
     let F : Option Fault → Type 0 = λ f. CountsFault f old new in

@@ -25,7 +25,14 @@ pub none_yet : (total : ℕ) (book : List Series) → AreRules total book (told 
 none_yet total book = let P : List (Option (List ℕ)) → Type 0 = λ l. AreRules total book (filter says l) [] in subst P (sym lines_none) tt
 
 abbrev pub no_rules : (total : ℕ) (book : List Series) (input : List ℕ) → FirstRules total book input
-no_rules total book input = record { front = []; rest = input; begins = record { split = refl; whole = inl (inl refl) }; early = omega arith; rules = []; are = none_yet total book }
+no_rules total book input = record {
+  front = [];
+  rest = input;
+  begins = record { split = refl; whole = inl (inl refl) };
+  early = omega arith;
+  rules = [];
+  are = none_yet total book;
+}
 
 -- no answer yet
 pub unanswered_yet : SayRules (told []) []

@@ -1,5 +1,6 @@
 -- What lines of `retain` did, by what a run of lines says.
-use Rattle.std.proofs.Common.{◌≡◌, ◌∙◌, ℕ, ◌+◌, ◌≤◌, ◌^◌, ◌⊎◌, Bool, true, false, cond, List, [], ◌∷◌, ◌++◌, length, map, Option, Some, None, IfSome, refl, ap, sym, subst, arith, inl, inr}
+use Rattle.std.proofs.Common.{◌≡◌, ◌∙◌, ℕ, ◌+◌, ◌≤◌, ◌^◌, ◌⊎◌, Bool, true, false, cond, List, [], ◌∷◌, ◌++◌, length, map, Option, Some}
+use Rattle.std.proofs.Common.{None, IfSome, refl, ap, sym, subst, arith, inl, inr}
 use Rattle.std.specs.Prelude.{OnOk, IfErr, Result, Ok, Err}
 use Rattle.std.specs.List.{filter}
 use Rattle.std.proofs.lemmas.List.{append-nil}
@@ -35,9 +36,11 @@ use Rattle.retain_command.specs.Answered.{AnswersAll, AnswersFirst, AnswersSo, F
 use Rattle.retain_command.specs.Answers.{AreRules, SayRules, SweptRule, answer, answers, book_behind, said_of, swept_text}
 use Rattle.retain_command.specs.Doing.{LineFails, RuleCosts, Untouched}
 use Rattle.retain_command.specs.Rules.{Says, SaysNone}
-use Rattle.retain_command.specs.Sweeping.{ClearsNext, EndsSo, Faults, FirstRules, IsAhead, SweepsAll, SweepsFew, SweepsFirst, clears_of, left_by, said_to}
+use Rattle.retain_command.specs.Sweeping.{ClearsNext, EndsSo, Faults, FirstRules, IsAhead, SweepsAll, SweepsFew, SweepsFirst, clears_of}
+use Rattle.retain_command.specs.Sweeping.{left_by, said_to}
 use Rattle.retain_command.specs.WorkLaws.{known_on}
-use Rattle.retain_command.specs.Working.{Costs, Counted, GivenFails, Held, IsHeldIfKnown, LineDoes, LineLeaves, LineStopped, LineStopsSo, NextGiven, counted_more, held_swept}
+use Rattle.retain_command.specs.Working.{Costs, Counted, GivenFails, Held, IsHeldIfKnown, LineDoes, LineLeaves, LineStopped, LineStopsSo}
+use Rattle.retain_command.specs.Working.{NextGiven, counted_more, held_swept}
 use Rattle.retain_command.proofs.RuleLemmas.{first_unanswered, no_rules, spells_some}
 
 -- a book that is known
@@ -55,14 +58,16 @@ known_is held known = (λ i. record { known = known i; total = held.total; book 
 
 -- what stopped a run that left this
 abbrev StopsBy : View → (Rule → ℕ → Type 0) → List StoredSeries → Option (List ℕ) → Held → Given → End → Option (List ℕ) → Type 0
-StopsBy view IsBad catalog now held it end was = (held.known ≡ true → LineStopped held it view was now end) × GivenFails it IsBad catalog was now end
+StopsBy view IsBad catalog now held it end was = (held.known ≡ true → LineStopped held it view was now end)
+    × GivenFails it IsBad catalog was now end
 
 -- the rules of lines that were done
 record Ruled (held : Held) (all : List (Option (List ℕ))) (text : List ℕ) (behind : Held) : Type 0 where
   pub rules : List Rule
   pub are : AreRules held.total held.book (filter says all) rules
   pub text_is : text ≡ answers held.total held.book rules
-  pub behind_is : behind ≡ held_by held.total (book_behind held.total held.book rules) (counted_behind held.total held.book held.counted rules)
+  pub behind_is : behind ≡ held_by held.total (book_behind held.total held.book rules)
+      (counted_behind held.total held.book held.counted rules)
 
 line_says : (line : Option (List ℕ)) (rule : Rule) → Says line rule → says line ≡ true
 line_says None rule none = absurd none
@@ -70,7 +75,12 @@ line_says (Some text) rule spells = says_text text (spells_some rule text spells
 
 ruled_from : (at : ℕ) (parts : List (List ℕ)) (held : Held) (text : List ℕ) (behind : Held) → held.known ≡ true
     → Carries LineDoes held (given_from at parts) text behind → Ruled held (map text_of parts) text behind
-ruled_from at [] held text behind known (none, same) = record { rules = []; are = tt; text_is = none; behind_is = same ∙ known_is held known }
+ruled_from at [] held text behind known (none, same) = record {
+  rules = [];
+  are = tt;
+  text_is = none;
+  behind_is = same ∙ known_is held known;
+}
 ruled_from at (part ∷ parts) held text behind known follows =
     by (text_of part) follows.does (ruled_from (at + length part + 1) parts follows.between follows.more behind
     (known_on held (given.Line at (text_of part)) follows.first follows.between follows.does known) follows.others)
@@ -100,13 +110,15 @@ ruled_from at (part ∷ parts) held text behind known follows =
           behind_is = here.behind_is;
         }
 
-ruled_lines : (front : List ℕ) (held : Held) (text : List ℕ) (behind : Held) → held.known ≡ true → Carries LineDoes held (given_lines front) text behind
+ruled_lines : (front : List ℕ) (held : Held) (text : List ℕ) (behind : Held) → held.known ≡ true
+    → Carries LineDoes held (given_lines front) text behind
     → Ruled held (lines front) text behind
 unfolding lines given_lines
 ruled_lines front held text behind known carries = ruled_from 0 (split_lines front) held text behind known carries
 
 -- these lines, with pauses
-ruled : (front : List ℕ) (done : List Given) (held : Held) (text : List ℕ) (behind : Held) → held.known ≡ true → unpaused done ≡ given_lines front
+ruled : (front : List ℕ) (done : List Given) (held : Held) (text : List ℕ) (behind : Held) → held.known ≡ true
+    → unpaused done ≡ given_lines front
     → Carries LineDoes held done text behind → Ruled held (lines front) text behind
 ruled front done held text behind known are carries =
     let P : List Given → Type 0 = λ l. Carries LineDoes held l text behind in
@@ -114,7 +126,8 @@ ruled front done held text behind known are carries =
     (subst P are (carries_unpaused LineDoes (λ state none behind is. is) done held text behind carries))
 
 -- at the end nothing was done
-end_none : (held : Held) (text : List ℕ) (behind : Held) → Carries LineDoes held (given.End ∷ []) text behind → (text ≡ []) × (behind ≡ held)
+end_none : (held : Held) (text : List ℕ) (behind : Held) → Carries LineDoes held (given.End ∷ []) text behind
+    → (text ≡ []) × (behind ≡ held)
 end_none held text behind f = (f.texts ∙ ap (λ t. t ++ f.more) f.does.0 ∙ f.others.0, f.others.1 ∙ f.does.1)
 
 -- what the counts behind rules are
@@ -251,7 +264,8 @@ module _ (total : ℕ) (book : List Series) (input : List ℕ) (counted : Counte
   module _ (image : Image) (left before now : Option (List ℕ)) (first : FirstRules total book input) where
     -- it stopped the run
     abbrev Stopped : Given → End → Type 0
-    Stopped next end = LineStopsSo (held_by total (left_by total book input first) (counted_behind total book counted first.rules)) next image
+    Stopped next end = LineStopsSo (held_by total (left_by total book input first) (counted_behind total book counted first.rules)) next
+        image
         (sent_after (said_to total book input first) before) now end
 
     abbrev Ended : End → Type 0
@@ -313,7 +327,8 @@ module _ (total : ℕ) (book : List Series) (input : List ℕ) (counted : Counte
     line_so at at_is (Some text) next end none = absurd none
 
     next_stops : (next : Given) → IsNext (length first.front) first.rest next → (end : End) → Stopped next end → Ended end
-    next_stops (given.Line at line) (at_is, next) end why = line_so at at_is line (next_so (length first.front) first.rest line next) end why
+    next_stops (given.Line at line) (at_is, next) end why = line_so at at_is line
+        (next_so (length first.front) first.rest line next) end why
     next_stops given.Pause any end why = absurd why
     next_stops given.End none end why = absurd why
 
@@ -334,12 +349,16 @@ module _ (total : ℕ) (book : List Series) (input : List ℕ) (counted : Counte
   next_clears first given.End next more none = inl none
 
   -- how the run ended
-  ends_so : {T : Type 0} (Told : Type 0) (view : View) (IsBad : Rule → ℕ → Type 0) (catalog : List StoredSeries) (left before now : Option (List ℕ)) (pieces pieces' : ℕ) (answer : Result T (LinesStop End))
+  ends_so : {T : Type 0} (Told : Type 0) (view : View) (IsBad : Rule → ℕ
+      → Type 0) (catalog : List StoredSeries) (left before now : Option (List ℕ)) (pieces pieces' : ℕ) (answer : Result T (LinesStop End))
       → OnOk answer (length input ≤ 2 ^ 32)
-      → OnOk answer (runs.Runs LineDoes (held_by total book counted) (runs.AreAll pieces pieces') (IsHeldIfKnown Told view) (Some input) before now)
-      → IfErr answer (runs.StopsSo LineDoes (λ held it end was. StopsBy view IsBad catalog now held it end was) (IsHeldIfKnown Told view) (held_by total book counted) (Some input) left before now pieces pieces')
+      → OnOk answer (runs.Runs LineDoes (held_by total book counted) (runs.AreAll pieces pieces') (IsHeldIfKnown Told view)
+      (Some input) before now)
+      → IfErr answer (runs.StopsSo LineDoes (λ held it end was. StopsBy view IsBad catalog now held it end was) (IsHeldIfKnown Told view)
+      (held_by total book counted) (Some input) left before now pieces pieces')
       → EndsSo (Stands total view.image) total book input left before now (run_end answer) × SweepsFew (CostsBy view) total book input
-  ends_so {T} Told view IsBad catalog left before now pieces pieces' (Ok done) within all is = all_so Told view before now pieces pieces' within all
+  ends_so {T} Told view IsBad catalog left before now pieces pieces'
+      (Ok done) within all is = all_so Told view before now pieces pieces' within all
   ends_so {T} Told view IsBad catalog left before now pieces pieces' (Err (stop.Fault fault.ReadFault)) within all is =
       let f = firsts is.done is.are.first in (
         record {
@@ -362,7 +381,8 @@ module _ (total : ℕ) (book : List Series) (input : List ℕ) (counted : Counte
       let f = firsts is.done is.are.first in
       let H : Held → Type 0 = λ h. h.known ≡ true → LineStopped h is.next view (sent_after is.done.text before) now end in
       let T' : List ℕ → Type 0 = λ t.
-      LineStopsSo (held_by total (left_by total book input f.first) (counted_behind total book counted f.first.rules)) is.next view.image (sent_after t before) now end in
+      LineStopsSo (held_by total (left_by total book input f.first) (counted_behind total book counted f.first.rules)) is.next view.image
+      (sent_after t before) now end in
       let stopped = subst H f.behind_is is.why.0 refl in (
         next_stops view.image left before now f.first is.next is.are.next_is end (subst T' f.text_is stopped.why),
         next_few f.first view stopped.more (next_clears f.first is.next is.are.next_is stopped.more stopped.next) stopped.costs,
@@ -415,11 +435,14 @@ module _ (total : ℕ) (book : List Series) (input : List ℕ) (counted : Counte
 
 -- the same of an input that may be told
 module _ (total : ℕ) (book : List Series) (counted : Counted) where
-  pub ends_told : {T : Type 0} (Told : Type 0) (view : View) (IsBad : Rule → ℕ → Type 0) (catalog : List StoredSeries) (o left before now : Option (List ℕ)) (pieces pieces' : ℕ) (answer : Result T (LinesStop End))
+  pub ends_told : {T : Type 0} (Told : Type 0) (view : View) (IsBad : Rule → ℕ
+      → Type 0) (catalog : List StoredSeries) (o left before now : Option (List ℕ)) (pieces pieces' : ℕ) (answer : Result T (LinesStop End))
       → OnOk answer (IfSome o (λ input. length input ≤ 2 ^ 32))
       → OnOk answer (runs.Runs LineDoes (held_by total book counted) (runs.AreAll pieces pieces') (IsHeldIfKnown Told view) o before now)
-      → IfErr answer (runs.StopsSo LineDoes (λ held it end was. StopsBy view IsBad catalog now held it end was) (IsHeldIfKnown Told view) (held_by total book counted) o left before now pieces pieces')
-      → IfSome o (λ input. EndsSo (Stands total view.image) total book input left before now (run_end answer) × SweepsFew (CostsBy total book input counted view) total book input)
+      → IfErr answer (runs.StopsSo LineDoes (λ held it end was. StopsBy view IsBad catalog now held it end was) (IsHeldIfKnown Told view)
+      (held_by total book counted) o left before now pieces pieces')
+      → IfSome o (λ input. EndsSo (Stands total view.image) total book input left before now (run_end answer)
+      × SweepsFew (CostsBy total book input counted view) total book input)
   ends_told {T} Told view IsBad catalog None left before now pieces pieces' answer within all is = tt
   ends_told {T} Told view IsBad catalog (Some input) left before now pieces pieces' answer within all is =
       ends_so total book input counted Told view IsBad catalog left before now pieces pieces' answer within all is
@@ -429,7 +452,8 @@ module _ (total : ℕ) (book : List Series) (counted : Counted) where
       moments.Since old new (λ image sent. IsAhead (Stands total image) total book input (sent_now old) sent)))
 
   pub lasts_told : (o before : Option (List ℕ)) (old new : View)
-      → Since old new (runs.IsAhead LineDoes (λ held i. StandsForBook i held.total held.book) LineLeaves (held_by total book counted) o before
+      → Since old new (runs.IsAhead LineDoes (λ held i. StandsForBook i held.total held.book) LineLeaves
+      (held_by total book counted) o before
       (sent_now old))
       → Lasts o before old new
   lasts_told None before old new since = tt
@@ -464,7 +488,8 @@ counted_by at = record { reads = at.reads; syncs = at.syncs; writes = at.writes;
 pub costs_begun : (at : View) → Costs (counted_by at) at
 costs_begun at = record { reads = omega arith; syncs = omega arith; writes = omega arith }
 
-few_by : (total : ℕ) (book : List Series) (input : List ℕ) (old new : View) → SweepsFew (CostsBy total book input (counted_by old) new) total book input
+few_by : (total : ℕ) (book : List Series) (input : List ℕ) (old new : View)
+    → SweepsFew (CostsBy total book input (counted_by old) new) total book input
     → SweepsFew (λ rules clears. RuleCosts rules clears old new) total book input
 few_by total book input old new few = record {
   first = few.first;
@@ -480,7 +505,8 @@ few_by total book input old new few = record {
 module _ (total : ℕ) (book : List Series) (old new : View) where
   abbrev Both : Option (List ℕ) → Option (List ℕ) → Option (List ℕ) → Option (List ℕ) → End → Type 0
   Both o left before now end =
-      IfSome o (λ input. EndsSo (Stands total new.image) total book input left before now end × SweepsFew (CostsBy total book input (counted_by old) new) total book input)
+      IfSome o (λ input. EndsSo (Stands total new.image) total book input left before now end
+      × SweepsFew (CostsBy total book input (counted_by old) new) total book input)
 
   pub ends_of : (o left before now : Option (List ℕ)) (end : End) → Both o left before now end
       → IfSome o (λ input. EndsSo (Stands total new.image) total book input left before now end)
@@ -574,7 +600,8 @@ module _ (IsBad : Rule → ℕ → Type 0) (catalog : List StoredSeries) (input 
     }
     text_fault at at_is text next end is = tt
 
-    given_fault : (next : Given) → IsNext (length f.front) f.rest next → (end : End) → GivenFails next IsBad catalog before now end → Faults catalog input end
+    given_fault : (next : Given) → IsNext (length f.front) f.rest next → (end : End) → GivenFails next IsBad catalog before now end
+        → Faults catalog input end
     given_fault (given.Line at None) (at_is, next) end is =
         let P : End → Type 0 = λ e. Faults catalog input e in
         subst P (sym is.0) (record {
@@ -594,8 +621,10 @@ module _ (IsBad : Rule → ℕ → Type 0) (catalog : List StoredSeries) (input 
     given_fault given.End next end is = absurd is
 
 -- the line that stopped a run
-pub faults_told : {T : Type 0} (Told : Type 0) (view : View) (IsBad : Rule → ℕ → Type 0) (catalog : List StoredSeries) (o left before now : Option (List ℕ)) (pieces pieces' : ℕ) (answer : Result T (LinesStop End))
-    → IfErr answer (runs.StopsSo LineDoes (λ held it end was. StopsBy view IsBad catalog now held it end was) (IsHeldIfKnown Told view) unknown o left before now pieces pieces')
+pub faults_told : {T : Type 0} (Told : Type 0) (view : View) (IsBad : Rule → ℕ
+    → Type 0) (catalog : List StoredSeries) (o left before now : Option (List ℕ)) (pieces pieces' : ℕ) (answer : Result T (LinesStop End))
+    → IfErr answer (runs.StopsSo LineDoes (λ held it end was. StopsBy view IsBad catalog now held it end was)
+    (IsHeldIfKnown Told view) unknown o left before now pieces pieces')
     → IfSome o (λ input. Faults catalog input (run_end answer))
 faults_told {T} Told view IsBad catalog None left before now pieces pieces' answer is = tt
 faults_told {T} Told view IsBad catalog (Some input) left before now pieces pieces' (Ok done) is = tt
@@ -659,7 +688,8 @@ answered front done held text behind are carries =
 module _ (input : List ℕ) (before now : Option (List ℕ)) where
   -- all lines
   answers_all : (Told : Type 0) (at : View) (pieces pieces' : ℕ)
-      → runs.Runs LineDoes unknown (runs.AreAll pieces pieces') (IsHeldIfKnown Told at) (Some input) before now → AnswersAll input before now
+      → runs.Runs LineDoes unknown (runs.AreAll pieces pieces') (IsHeldIfKnown Told at) (Some input) before now
+      → AnswersAll input before now
   answers_all Told at pieces pieces' all =
       let done = all.done in
       let P : List Given → Type 0 = λ l. Carries LineDoes unknown l done.text done.behind in
@@ -685,7 +715,8 @@ module _ (input : List ℕ) (before now : Option (List ℕ)) where
   answers_first first text is sent = record { first = first; sent = sent ∙ ap (λ t. sent_after t before) is }
 
   -- a line stopped the run
-  module _ (IsBad : Rule → ℕ → Type 0) (catalog : List StoredSeries) (left : Option (List ℕ)) (first : FirstSwept input) (text : List ℕ) (is : text ≡ said_of first.swept) where
+  module _ (IsBad : Rule → ℕ → Type 0) (catalog : List StoredSeries) (left : Option (List ℕ)) (first : FirstSwept input) (text : List ℕ)
+      (is : text ≡ said_of first.swept) where
     answers_line : (at : ℕ) → at ≡ length first.front → (line : List ℕ) → NextLine (length first.front) first.rest (Some line) → (end : End)
         → LineFails line at IsBad catalog (sent_after text before) now end → AnswersSo IsBad input left before now end
     answers_line at at_is line next ends.NoMemory unsent = answers_first first text is unsent
@@ -727,12 +758,15 @@ behind_so rest None is = tt
 behind_so rest (Some l) is = record { partial = is.partial; taken = is.taken; unended = is.unended }
 
 -- how a run ended
-pub answers_told : {T : Type 0} (Told : Type 0) (view : View) (IsBad : Rule → ℕ → Type 0) (catalog : List StoredSeries) (o left before now : Option (List ℕ)) (pieces pieces' : ℕ) (answer : Result T (LinesStop End))
+pub answers_told : {T : Type 0} (Told : Type 0) (view : View) (IsBad : Rule → ℕ
+    → Type 0) (catalog : List StoredSeries) (o left before now : Option (List ℕ)) (pieces pieces' : ℕ) (answer : Result T (LinesStop End))
     → OnOk answer (runs.Runs LineDoes unknown (runs.AreAll pieces pieces') (IsHeldIfKnown Told view) o before now)
-    → IfErr answer (runs.StopsSo LineDoes (λ held it end was. StopsBy view IsBad catalog now held it end was) (IsHeldIfKnown Told view) unknown o left before now pieces pieces')
+    → IfErr answer (runs.StopsSo LineDoes (λ held it end was. StopsBy view IsBad catalog now held it end was)
+    (IsHeldIfKnown Told view) unknown o left before now pieces pieces')
     → IfSome o (λ input. AnswersSo IsBad input left before now (run_end answer))
 answers_told {T} Told view IsBad catalog None left before now pieces pieces' answer all is = tt
-answers_told {T} Told view IsBad catalog (Some input) left before now pieces pieces' (Ok done) all is = answers_all input before now Told view pieces pieces' all
+answers_told {T} Told view IsBad catalog (Some input) left before now pieces pieces'
+    (Ok done) all is = answers_all input before now Told view pieces pieces' all
 answers_told {T} Told view IsBad catalog (Some input) left before now pieces pieces' (Err (stop.Fault fault.ReadFault)) all is =
     let f = first_swept input before now is.done is.are.first in
     record {

@@ -36,8 +36,10 @@ words_one words (Free pages) (Free many) one two =
     let numbers : one.0 ≡ two.0 = first_same _ _ _ _ (rest_same _ _ _ _ both) in
     let P : List ℕ → Type 0 = λ n. SpellsNatural n many in
     ap Free (one_natural one.0 pages many one.2 (subst P (sym numbers) two.2))
-words_one words (Before name time) (Last other many) one two = let same : codes "before" ≡ codes "last" = first_same _ _ _ _ (sym one.1 ∙ two.1) in absurd (omega (arith, ap length same))
-words_one words (Last name count) (Before other when) one two = let same : codes "last" ≡ codes "before" = first_same _ _ _ _ (sym one.1 ∙ two.1) in absurd (omega (arith, ap length same))
+words_one words (Before name time) (Last other many) one two = let same : codes "before" ≡ codes "last" = first_same _ _ _ _ (sym one.1
+    ∙ two.1) in absurd (omega (arith, ap length same))
+words_one words (Last name count) (Before other when) one two = let same : codes "last" ≡ codes "before" = first_same _ _ _ _ (sym one.1
+    ∙ two.1) in absurd (omega (arith, ap length same))
 words_one words (Before name time) (Free many) one two = absurd (omega (arith, ap length (sym one.1 ∙ two.1)))
 words_one words (Free pages) (Before other when) one two = absurd (omega (arith, ap length (sym one.1 ∙ two.1)))
 words_one words (Last name count) (Free many) one two = absurd (omega (arith, ap length (sym one.1 ∙ two.1)))
@@ -49,22 +51,33 @@ one_rule line first second one two = words_one (tokens line) first second one tw
 -- ---- lines that are no rule
 
 -- the second of two tokens has no space
-pub no_third : (bytes first number parts_first parts_rest : List ℕ) (name last : List ℕ) → tokens bytes ≡ first ∷ tokens number → tokens number ≡ parts_first ∷ tokens parts_rest → tokens bytes ≡ name ∷ last ∷ [] → ⊥
+pub no_third : (bytes first number parts_first parts_rest : List ℕ) (name last : List ℕ) → tokens bytes ≡ first ∷ tokens number
+    → tokens number ≡ parts_first ∷ tokens parts_rest → tokens bytes ≡ name ∷ last ∷ [] → ⊥
 no_third bytes first number parts_first parts_rest name last is more two =
     absurd (omega (arith, some_token parts_rest, ap length (sym is ∙ two), ap length more))
 
-pub no_second : (bytes parts_first parts_rest : List ℕ) (number : List ℕ) → tokens bytes ≡ parts_first ∷ tokens parts_rest → tokens bytes ≡ number ∷ [] → ⊥
+pub no_second : (bytes parts_first parts_rest : List ℕ) (number : List ℕ) → tokens bytes ≡ parts_first ∷ tokens parts_rest
+    → tokens bytes ≡ number ∷ [] → ⊥
 no_second bytes parts_first parts_rest number more one = absurd (omega (arith, some_token parts_rest, ap length (sym more ∙ one)))
 
 -- a line whose first token is `before` is no other rule
-pub none_before : (line word rest : List ℕ) → tokens line ≡ word ∷ tokens rest → word ≡ codes "before" → ((name number : List ℕ) (time : ℤ) → tokens rest ≡ name ∷ number ∷ [] → IsTrue (is_name name) → SpellsInteger number time → ⊥) → (rule : Rule) → Spells rule line → ⊥
-none_before line word rest is same none (Before name time) spells = none name spells.0 time (rest_same _ _ _ _ (sym is ∙ spells.1)) spells.2 spells.3
-none_before line word rest is same none (Last name count) spells = let other : codes "last" ≡ codes "before" = sym (first_same _ _ _ _ (sym is ∙ spells.1)) ∙ same in absurd (omega (arith, ap length other))
-none_before line word rest is same none (Free pages) spells = let other : codes "free" ≡ codes "before" = sym (first_same _ _ _ _ (sym is ∙ spells.1)) ∙ same in absurd (omega (arith, ap length other))
+pub none_before : (line word rest : List ℕ) → tokens line ≡ word ∷ tokens rest → word ≡ codes "before"
+    → ((name number : List ℕ) (time : ℤ) → tokens rest ≡ name ∷ number ∷ [] → IsTrue (is_name name) → SpellsInteger number time → ⊥)
+    → (rule : Rule) → Spells rule line → ⊥
+none_before line word rest is same none (Before name time) spells = none name spells.0 time
+    (rest_same _ _ _ _ (sym is ∙ spells.1)) spells.2 spells.3
+none_before line word rest is same none (Last name count) spells = let other : codes "last" ≡ codes
+    "before" = sym (first_same _ _ _ _ (sym is ∙ spells.1)) ∙ same in absurd (omega (arith, ap length other))
+none_before line word rest is same none (Free pages) spells = let other : codes "free" ≡ codes
+    "before" = sym (first_same _ _ _ _ (sym is ∙ spells.1)) ∙ same in absurd (omega (arith, ap length other))
 
-pub none_last : (line word rest : List ℕ) → tokens line ≡ word ∷ tokens rest → word ≡ codes "last" → ((name number : List ℕ) (count : ℕ) → tokens rest ≡ name ∷ number ∷ [] → IsTrue (is_name name) → SpellsNatural number count → ⊥) → (rule : Rule) → Spells rule line → ⊥
-none_last line word rest is same none (Before name time) spells = let other : codes "before" ≡ codes "last" = sym (first_same _ _ _ _ (sym is ∙ spells.1)) ∙ same in absurd (omega (arith, ap length other))
-none_last line word rest is same none (Last name count) spells = none name spells.0 count (rest_same _ _ _ _ (sym is ∙ spells.1)) spells.2 spells.3
+pub none_last : (line word rest : List ℕ) → tokens line ≡ word ∷ tokens rest → word ≡ codes "last"
+    → ((name number : List ℕ) (count : ℕ) → tokens rest ≡ name ∷ number ∷ [] → IsTrue (is_name name) → SpellsNatural number count → ⊥)
+    → (rule : Rule) → Spells rule line → ⊥
+none_last line word rest is same none (Before name time) spells = let other : codes "before" ≡ codes
+    "last" = sym (first_same _ _ _ _ (sym is ∙ spells.1)) ∙ same in absurd (omega (arith, ap length other))
+none_last line word rest is same none (Last name count) spells = none name spells.0 count
+    (rest_same _ _ _ _ (sym is ∙ spells.1)) spells.2 spells.3
 none_last line word rest is same none (Free pages) spells =
     let other : codes "free" ≡ codes "last" = sym (first_same _ _ _ _ (sym is ∙ spells.1)) ∙ same in
     let byte : 102 ≡ 108 = ap (λ (l : List ℕ). slice_index l 0) other in

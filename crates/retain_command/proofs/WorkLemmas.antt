@@ -1,5 +1,6 @@
 -- What a line of `retain` does, as a work of lines says it.
-use Rattle.std.proofs.Common.{◌≡◌, ◌≢◌, ◌∙◌, ℕ, ◌≤◌, Bool, true, false, List, [], length, Option, None, Some, Result, Ok, Err, refl, ap, sym, inl, inr, arith}
+use Rattle.std.proofs.Common.{◌≡◌, ◌≢◌, ◌∙◌, ℕ, ◌≤◌, Bool, true, false, List, [], length, Option, None, Some, Result, Ok, Err, refl, ap}
+use Rattle.std.proofs.Common.{sym, inl, inr, arith}
 use Rattle.std.specs.Prelude.{OnOk, IfErr, ⊤}
 use Rattle.block_disk.specs.SentLaws.{sent_none}
 use Rattle.block_disk.specs.View.{View}
@@ -56,7 +57,12 @@ module _ (held : Held) (text : List ℕ) (at : ℕ) (old new : View) (before now
       text_is = λ known. refl;
       behind_is = refl;
     });
-    stands = λ known. (told, done.stands, costs_on held.counted 1 (length (sweeps held.total held.book rule)) old new (omega arith) was costs);
+    stands = λ known. (
+      told,
+      done.stands,
+      costs_on held.counted 1 (length (sweeps held.total held.book rule)) old new
+          (omega arith) was costs,
+    );
     sent = done.sent;
   }
 
@@ -97,9 +103,12 @@ module _ (held : Held) (text : List ℕ) (at : ℕ) (old new : View) (before now
       by true known = line_known Told' (more (stands known).0) (stands known).2 (does known).done
       by false unknown = line_said Told' (λ known. let both : false ≡ true = sym unknown ∙ known in cc) says
 
-  pub work_stops : {T : Type 0} (Told : Type 0) (result : Result T End) (IsBad : Rule → ℕ → Type 0) (catalog : List StoredSeries) → IsHeldIfKnown Told old held
-      → (held.known ≡ true → DoesLine held.total held.book text at result old new before now) → IfErr result (LineFails text at IsBad catalog before now)
-      → IfErr result (λ end. (held.known ≡ true → LineStopped held (Line at (Some text)) new before now end) × GivenFails (Line at (Some text)) IsBad catalog before now end)
+  pub work_stops : {T : Type 0} (Told : Type 0) (result : Result T End) (IsBad : Rule → ℕ → Type 0) (catalog : List StoredSeries)
+      → IsHeldIfKnown Told old held
+      → (held.known ≡ true → DoesLine held.total held.book text at result old new before now)
+      → IfErr result (LineFails text at IsBad catalog before now)
+      → IfErr result (λ end. (held.known ≡ true → LineStopped held (Line at (Some text)) new before now end)
+      × GivenFails (Line at (Some text)) IsBad catalog before now end)
   work_stops {T} Told (Ok v) IsBad catalog stands does fails = tt
   work_stops {T} Told (Err e) IsBad catalog stands does fails = (
     (λ known.
@@ -120,17 +129,20 @@ long_stops Told held at view before stands known = record {
   why = (refl, record { stands = (stands known).1; unsent = refl });
   more = 0;
   next = refl;
-  costs = costs_on held.counted 1 0 view view (omega arith) (stands known).2 (record { reads = omega arith; syncs = omega arith; writes = omega arith });
+  costs = costs_on held.counted 1 0 view view (omega arith) (stands known).2
+      (record { reads = omega arith; syncs = omega arith; writes = omega arith });
 }
 
 -- no end of a sweep is the input's length
-pub sweep_short : (at : ℕ) (error : SweepError) (end : End) → end ≡ end_at at error → ◌≡◌ {A = Result ⊤ End} (Err end) (Err InputTooLong) → ⊥
+pub sweep_short : (at : ℕ) (error : SweepError) (end : End) → end ≡ end_at at error → ◌≡◌ {A = Result ⊤ End} (Err end) (Err InputTooLong)
+    → ⊥
 sweep_short at sweep.UnknownSeries end is same = cc
 sweep_short at sweep.DiskFault end is same = cc
 sweep_short at (sweep.Damaged page) end is same = cc
 sweep_short at sweep.NoMemory end is same = cc
 
 -- a cause of an end that isn't the input's length
-pub cause_short : {T : Type 0} (Causes : End → Type 0) (result : Result T End) → IfErr result Causes → (result ≡ Err InputTooLong → ⊥) → IfErr result (λ end. Causes end × (end ≢ InputTooLong))
+pub cause_short : {T : Type 0} (Causes : End → Type 0) (result : Result T End) → IfErr result Causes → (result ≡ Err InputTooLong → ⊥)
+    → IfErr result (λ end. Causes end × (end ≢ InputTooLong))
 cause_short {T} Causes (Ok done) causes short = tt
 cause_short {T} Causes (Err end) causes short = (causes, λ is. short (ap Err is))

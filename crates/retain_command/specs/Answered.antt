@@ -6,7 +6,8 @@ use Rattle.chart_world.specs.Fronts.{BeginsWith, IsWhole}
 use Rattle.chart_world.specs.Lines.{NoLineFeed}
 use Rattle.retention.specs.declared.rule.Rule.{Rule}
 use Rattle.run_ends.specs.declared.ending.End.{End}
-use Rattle.run_ends.specs.declared.ending.End.TheVariants.{Done, NoMemory, ReadFault, SendFault, DiskFault, DamagedPage, BadInput, InputTooLong, NoSeries}
+use Rattle.run_ends.specs.declared.ending.End.TheVariants.{Done, NoMemory, ReadFault, SendFault, DiskFault, DamagedPage, BadInput}
+use Rattle.run_ends.specs.declared.ending.End.TheVariants.{InputTooLong, NoSeries}
 use Rattle.store_commands.specs.InputLines.{NextLine, Unended}
 use Rattle.retain_command.specs.Answers.{SayRules, SweptRule, said_of, swept_text}
 use Rattle.retain_command.specs.Rules.{Says}

@@ -7,7 +7,8 @@ use Rattle.gate_pages.specs.Pages.{GoesOn}
 use Rattle.gate_pages.specs.declared.pages.Pages.{Ghosts}
 use Rattle.line_runs.specs.Moments.{Through}
 use Rattle.run_ends.specs.declared.ending.End.{End}
-use Rattle.run_ends.specs.declared.ending.End.TheVariants.{NoMemory, ReadFault, SendFault, DiskFault, DamagedPage, BadInput, InputTooLong, NoSeries}
+use Rattle.run_ends.specs.declared.ending.End.TheVariants.{NoMemory, ReadFault, SendFault, DiskFault, DamagedPage, BadInput, InputTooLong}
+use Rattle.run_ends.specs.declared.ending.End.TheVariants.{NoSeries}
 use Rattle.series_book.specs.declared.one_series.Series.{Series}
 use Rattle.series_book.specs.EditLists.{after_edits}
 use Rattle.series_catalog.specs.declared.stored_series.StoredSeries.{StoredSeries}
@@ -90,7 +91,8 @@ pub record RuleCosts (looks clears : ℕ) (old new : View) : Type 0 where
   pub writes : new.writes ≤ old.writes + 87 * clears
 
 -- what a call does that answers a rule
-pub record DoesRule {T : Type 0} (total : ℕ) (book : List Series) (rule : Rule) (at : ℕ) (result : Result T End) (old new : View) (before now : Option (List ℕ)) : Type 0 where
+pub record DoesRule {T : Type 0} (total : ℕ) (book : List Series) (rule : Rule) (at : ℕ) (result : Result T End) (old new : View)
+    (before now : Option (List ℕ)) : Type 0 where
   pub costs : RuleCosts 1 (length (sweeps total book rule)) old new
   pub done : OnOk result (RuleDone total book rule new.image before now)
   pub stops : IfErr result (RuleStops total book rule at new.image before now)
@@ -107,10 +109,12 @@ pub record Untouched (total : ℕ) (book : List Series) (image : Image) (before 
 abbrev pub LineDone : ℕ → List Series → List ℕ → View → View → Option (List ℕ) → Option (List ℕ) → Type 0
 LineDone total book text old new before now =
     ((text ≡ []) × Untouched total book new.image before now × RuleCosts 0 0 old new)
-    ⊎ ((rule : Rule) × Spells rule text × RuleDone total book rule new.image before now × RuleCosts 1 (length (sweeps total book rule)) old new)
+    ⊎ ((rule : Rule) × Spells rule text × RuleDone total book rule new.image before now
+    × RuleCosts 1 (length (sweeps total book rule)) old new)
 
 -- it isn't empty and says no rule
-pub record LineBad (total : ℕ) (book : List Series) (text : List ℕ) (at place : ℕ) (image : Image) (before now : Option (List ℕ)) : Type 0 where
+pub record LineBad (total : ℕ) (book : List Series) (text : List ℕ) (at place : ℕ) (image : Image)
+    (before now : Option (List ℕ)) : Type 0 where
   pub place_is : place ≡ at
   pub some : 0 < length text
   pub none : SaysNone (Some text)
@@ -121,7 +125,8 @@ abbrev pub SpelledStops : ℕ → List Series → List ℕ → ℕ → Image →
 SpelledStops total book text at image before now end = (rule : Rule) × Spells rule text × RuleStops total book rule at image before now end
 
 abbrev pub LineStops : ℕ → List Series → List ℕ → ℕ → Image → Option (List ℕ) → Option (List ℕ) → End → Type 0
-LineStops total book text at image before now NoMemory = Untouched total book image before now ⊎ SpelledStops total book text at image before now NoMemory
+LineStops total book text at image before now NoMemory = Untouched total book image before now
+    ⊎ SpelledStops total book text at image before now NoMemory
 LineStops total book text at image before now SendFault = SpelledStops total book text at image before now SendFault
 LineStops total book text at image before now DiskFault = now ≡ before
 LineStops total book text at image before now (BadInput place) = LineBad total book text at place image before now
@@ -141,7 +146,8 @@ abbrev pub LineCosts : ℕ → List Series → List ℕ → View → View → Ty
 LineCosts total book text old new = (clears : ℕ) × NextClears total book text clears × RuleCosts 1 clears old new
 
 -- what a call does that answers a line
-pub record DoesLine {T : Type 0} (total : ℕ) (book : List Series) (text : List ℕ) (at : ℕ) (result : Result T End) (old new : View) (before now : Option (List ℕ)) : Type 0 where
+pub record DoesLine {T : Type 0} (total : ℕ) (book : List Series) (text : List ℕ) (at : ℕ) (result : Result T End) (old new : View)
+    (before now : Option (List ℕ)) : Type 0 where
   pub done : OnOk result (LineDone total book text old new before now)
   pub most : LineCosts total book text old new
   pub stops : IfErr result (LineStops total book text at new.image before now)
@@ -151,10 +157,12 @@ pub record DoesLine {T : Type 0} (total : ℕ) (book : List Series) (text : List
 
 module _ {P : Type 0} {g : Ghosts P} {T : Type 0} (sent : P → Option (List ℕ)) where
   abbrev pub DoesRuleOn : Rule → ℕ → Result T End → Store P g → Store P g → ℕ → List Series → Type 0
-  DoesRuleOn rule at result old new total book = DoesRule total book rule at result (shown.view old) (shown.view new) (sent (shown.pages old)) (sent (shown.pages new))
+  DoesRuleOn rule at result old new total book = DoesRule total book rule at result (shown.view old) (shown.view new)
+      (sent (shown.pages old)) (sent (shown.pages new))
 
   abbrev pub DoesLineOn : List ℕ → ℕ → Result T End → Store P g → Store P g → ℕ → List Series → Type 0
-  DoesLineOn text at result old new total book = DoesLine total book text at result (shown.view old) (shown.view new) (sent (shown.pages old)) (sent (shown.pages new))
+  DoesLineOn text at result old new total book = DoesLine total book text at result (shown.view old) (shown.view new)
+      (sent (shown.pages old)) (sent (shown.pages new))
 
 -- ---- what is so of a line, whatever the pages are
 

@@ -22,7 +22,8 @@ use Rattle.retention.specs.Moving.{clear_reads}
 use Rattle.retention.specs.declared.rule.Rule.{Rule}
 use Rattle.retain_command.specs.Answered.{AnswersSo}
 use Rattle.retain_command.specs.Rules.{SaysNone}
-use Rattle.retain_command.specs.Sweeping.{EndsSo, IsAhead, LacksAt, SweepsFew, SweepsAll, SweepsLines, SweepsPart, SweepsSome, SweepsTaken, SweepsToBad, SweepsToUnknown, SweepsWithin}
+use Rattle.retain_command.specs.Sweeping.{EndsSo, IsAhead, LacksAt, SweepsFew, SweepsAll, SweepsLines, SweepsPart, SweepsSome, SweepsTaken}
+use Rattle.retain_command.specs.Sweeping.{SweepsToBad, SweepsToUnknown, SweepsWithin}
 
 -- all lines of the input are rules, they were swept, and their answers were sent
 abbrev pub RetainsAll : ℕ → View → View → List ℕ → Option (List ℕ) → Option (List ℕ) → Type 0
@@ -34,11 +35,13 @@ RetainsSome count old new input before now = OfBook count old (λ total book. Sw
 
 -- all lines whose line feeds were among the bytes taken were swept and answered, where the bytes left are told
 abbrev pub RetainsTaken : ℕ → View → View → List ℕ → Option (List ℕ) → Option (List ℕ) → Option (List ℕ) → Type 0
-RetainsTaken count old new input left before now = OfBook count old (λ total book. SweepsTaken (Holds count total new) total book input before now left)
+RetainsTaken count old new input left before now = OfBook count old
+    (λ total book. SweepsTaken (Holds count total new) total book input before now left)
 
 -- those that ended among the first 2^32 bytes, and there is a byte more
 abbrev pub RetainsWithin : ℕ → View → View → List ℕ → Option (List ℕ) → Option (List ℕ) → Type 0
-RetainsWithin count old new input before now = OfBook count old (λ total book. SweepsWithin (Holds count total new) total book input before now)
+RetainsWithin count old new input before now = OfBook count old
+    (λ total book. SweepsWithin (Holds count total new) total book input before now)
 
 -- some first lines were swept, and their answers were sent, but for a part of the last one's
 abbrev pub RetainsPart : ℕ → View → View → List ℕ → Option (List ℕ) → Option (List ℕ) → Type 0
@@ -50,22 +53,26 @@ RetainsLines count old input before now = OfBook count old (λ total book. Sweep
 
 -- the lines before the first bad one, which begins at this place, were swept and answered
 abbrev pub RetainsToBad : ℕ → View → View → List ℕ → ℕ → Option (List ℕ) → Option (List ℕ) → Type 0
-RetainsToBad count old new input place before now = OfBook count old (λ total book. SweepsToBad (Holds count total new) total book input before now place)
+RetainsToBad count old new input place before now = OfBook count old
+    (λ total book. SweepsToBad (Holds count total new) total book input before now place)
 
 -- those before the first that names a series which isn't in the book
 abbrev pub RetainsToUnknown : ℕ → View → View → List ℕ → ℕ → Option (List ℕ) → Option (List ℕ) → Type 0
-RetainsToUnknown count old new input place before now = OfBook count old (λ total book. SweepsToUnknown (Holds count total new) total book input before now place)
+RetainsToUnknown count old new input place before now = OfBook count old
+    (λ total book. SweepsToUnknown (Holds count total new) total book input before now place)
 
 -- At each moment a crash leaves an image that recovers to the book behind the lines whose answers were sent whole by then,
 -- and behind some first clears of the next one.
 abbrev pub LeavesSwept : ℕ → List ℕ → View → View → Type 0
 LeavesSwept count input old new =
-    OfBook count old (λ total book. Since old new (λ image sent. IsAhead (λ after. RecoversTo count image total after) total book input (sent_now old) sent))
+    OfBook count old (λ total book. Since old new (λ image sent. IsAhead (λ after. RecoversTo count image total after) total book input
+    (sent_now old) sent))
 
 -- behind an opening no more was read, synced and written than a commit and a look for each clear, and a look for each rule
 abbrev pub RetainsFew : ℕ → View → View → List ℕ → Type 0
 RetainsFew count old new input =
-    OfBook count old (λ total book. SweepsFew (λ rules clears. Spends count (clear_reads * (clears + rules)) (4 * clears) (87 * clears) old new) total book input)
+    OfBook count old (λ total book. SweepsFew (λ rules clears. Spends count (clear_reads * (clears + rules)) (4 * clears)
+    (87 * clears) old new) total book input)
 
 -- Whatever the disk holds: the line at the place is the first that is no rule, or the catalog on the disk then lacks the series
 -- that it names.
@@ -97,7 +104,8 @@ IsRetainCause end old new t = ⊥
 -- disk, of which the moments tell, a book again. Whatever the disk holds, the lines were answered so.
 pub record RetainEnds (old new : View) (t : Traffic) (end : End) : Type 0 where
   pub cause : IsRetainCause end old new t
-  pub does : IfSome t.left (λ input. OfBook (page_count old.size) old (λ total book. EndsSo (Holds (page_count old.size) total new) total book input t.left_now t.sent t.sent_now end))
+  pub does : IfSome t.left (λ input. OfBook (page_count old.size) old
+      (λ total book. EndsSo (Holds (page_count old.size) total new) total book input t.left_now t.sent t.sent_now end))
   pub holds : end ≢ DiskFault → IfSome t.left (λ input. HoldsAgain (page_count old.size) old new)
   pub crash : IfSome t.left (λ input. IfSome t.sent (λ bytes. LeavesSwept (page_count old.size) input old new))
   pub costs : IfSome t.left (RetainsFew (page_count old.size) old new)

@@ -22,16 +22,20 @@ module _ {P : Type 0} {g : Ghosts P} (beside : streams.Ghosts P) (total : ℕ) (
 
   -- what was done and sent, by how the run ended
   abbrev pub EndsOn : End → Type 0
-  EndsOn end = IfSome (beside.left (shown.pages old)) (λ input. EndsSo Stands total book input (beside.left (shown.pages new)) (beside.sent (shown.pages old)) (beside.sent (shown.pages new)) end)
+  EndsOn end = IfSome (beside.left (shown.pages old))
+      (λ input. EndsSo Stands total book input (beside.left (shown.pages new)) (beside.sent (shown.pages old))
+      (beside.sent (shown.pages new)) end)
 
   -- at each moment a crash leaves such a book
   abbrev pub LastsFor : Type 0
   LastsFor = IfSome (beside.left (shown.pages old)) (λ input. IfSome (beside.sent (shown.pages old)) (λ bytes.
-      Since (shown.view old) (shown.view new) (λ image sent. IsAhead (λ after. StandsForBook image total after) total book input (sent_now (shown.view old)) sent)))
+      Since (shown.view old) (shown.view new) (λ image sent. IsAhead (λ after. StandsForBook image total after) total book input
+      (sent_now (shown.view old)) sent)))
 
   -- what the sweeps cost
   abbrev pub CostsOn : Type 0
-  CostsOn = IfSome (beside.left (shown.pages old)) (λ input. SweepsFew (λ rules clears. RuleCosts rules clears (shown.view old) (shown.view new)) total book input)
+  CostsOn = IfSome (beside.left (shown.pages old)) (λ input. SweepsFew
+      (λ rules clears. RuleCosts rules clears (shown.view old) (shown.view new)) total book input)
 
 -- the page is bad for a sweep by the rule, where reads give what the pages are
 abbrev pub IsBadOn : {P : Type 0} {g : Ghosts P} → Store P g → Rule → ℕ → Type 0
@@ -45,4 +49,6 @@ module _ {P : Type 0} {g : Ghosts P} (beside : streams.Ghosts P) (old new : Stor
 
   -- and the lines were answered so
   abbrev pub IsAnsweredSo : End → Type 0
-  IsAnsweredSo end = IfSome (beside.left (shown.pages old)) (λ input. AnswersSo (IsBadOn new) input (beside.left (shown.pages new)) (beside.sent (shown.pages old)) (beside.sent (shown.pages new)) end)
+  IsAnsweredSo end = IfSome (beside.left (shown.pages old))
+      (λ input. AnswersSo (IsBadOn new) input (beside.left (shown.pages new)) (beside.sent (shown.pages old))
+      (beside.sent (shown.pages new)) end)

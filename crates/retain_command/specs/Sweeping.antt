@@ -6,7 +6,8 @@ use Rattle.chart_service.specs.Serving.{told}
 use Rattle.chart_world.specs.Fronts.{says, BeginsWith, IsWhole}
 use Rattle.chart_world.specs.Lines.{NoLineFeed}
 use Rattle.run_ends.specs.declared.ending.End.{End}
-use Rattle.run_ends.specs.declared.ending.End.TheVariants.{Done, NoMemory, ReadFault, SendFault, DiskFault, BadInput, InputTooLong, NoSeries}
+use Rattle.run_ends.specs.declared.ending.End.TheVariants.{Done, NoMemory, ReadFault, SendFault, DiskFault, BadInput, InputTooLong}
+use Rattle.run_ends.specs.declared.ending.End.TheVariants.{NoSeries}
 use Rattle.series_book.specs.declared.one_series.Series.{Series}
 use Rattle.series_book.specs.EditLists.{after_edits}
 use Rattle.retention.specs.declared.rule.Rule.{Rule}
@@ -112,7 +113,8 @@ module _ (IsThere : List Series → Type 0) (total : ℕ) (book : List Series) (
     pub next : NextRule (length first.front) (left_by total book input first) first.rest rule
     pub done : ℕ
     pub few : done ≤ length (sweeps total (left_by total book input first) rule)
-    pub there : IsThere (after_edits total (left_by total book input first) (take done (sweeps total (left_by total book input first) rule)))
+    pub there : IsThere (after_edits total (left_by total book input first)
+        (take done (sweeps total (left_by total book input first) rule)))
     pub sent : now ≡ sent_after (said_to total book input first) before
 
   -- the one or the other
@@ -178,7 +180,8 @@ Faults catalog input end = ⊤
 -- ---- crashes
 
 -- Of the next line some first clears were done, and all of them once a byte of its answer was sent.
-pub record AnswersNext (IsThere : List Series → Type 0) (total given : ℕ) (book : List Series) (rest : List ℕ) (from sent : ℕ) : Type 0 where
+pub record AnswersNext (IsThere : List Series → Type 0) (total given : ℕ) (book : List Series) (rest : List ℕ)
+    (from sent : ℕ) : Type 0 where
   pub rule : Rule
   pub next : NextRule given book rest rule
   pub done : ℕ
@@ -193,4 +196,5 @@ pub record AnswersNext (IsThere : List Series → Type 0) (total given : ℕ) (b
 pub record IsAhead (IsThere : List Series → Type 0) (total : ℕ) (book : List Series) (input : List ℕ) (from sent : ℕ) : Type 0 where
   pub first : FirstRules total book input
   pub state : (IsThere (left_by total book input first) × (sent ≡ from + length (said_to total book input first)))
-      ⊎ AnswersNext IsThere total (length first.front) (left_by total book input first) first.rest (from + length (said_to total book input first)) sent
+      ⊎ AnswersNext IsThere total (length first.front) (left_by total book input first) first.rest
+      (from + length (said_to total book input first)) sent

@@ -9,7 +9,8 @@ use Rattle.gate_pages.specs.Pages.{GoesOn}
 use Rattle.line_runs.specs.Given as given
 use Rattle.page_space.specs.declared.superblock.Superblock.{Superblock}
 use Rattle.run_ends.specs.declared.ending.End.{End}
-use Rattle.run_ends.specs.declared.ending.End.TheVariants.{NoMemory, ReadFault, SendFault, DiskFault, DamagedPage, BadInput, InputTooLong, NoSeries}
+use Rattle.run_ends.specs.declared.ending.End.TheVariants.{NoMemory, ReadFault, SendFault, DiskFault, DamagedPage, BadInput, InputTooLong}
+use Rattle.run_ends.specs.declared.ending.End.TheVariants.{NoSeries}
 use Rattle.stored_book.specs.Standing.{StandsForBook}
 use Rattle.store_commands.specs.Sides.{Side, AreBeside}
 use Rattle.retain_command.specs.Doing.{Goes, IsCause}

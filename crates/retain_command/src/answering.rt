@@ -8,7 +8,8 @@ ghost use Rattle.series_store.specs.Shown as shown;
 ghost use Rattle.retain_command.specs.Answers.{swept_text};
 ghost use Rattle.store_commands.specs.Sides.{side_of};
 ghost use Rattle.retain_command.specs.Shown.{IsBadOn};
-ghost use Rattle.retain_command.specs.Doing.{DoesLineOn, DoesRuleOn, Goes, IsCause, LineFails, LineSays, RuleFails, SaysSwept, TextStops, end_at};
+ghost use Rattle.retain_command.specs.Doing.{DoesLineOn, DoesRuleOn, Goes, IsCause, LineFails, LineSays, RuleFails, SaysSwept, TextStops};
+ghost use Rattle.retain_command.specs.Doing.{end_at};
 
 use crate::rule_error::RuleError;
 use crate::rules::rule_of;
@@ -40,8 +41,10 @@ fn swept_text(alloc: Global, swept: Swept) -> Result<Vec<u8>, AllocError>
 
 /// Sends what is said of a sweep.
 fn send_swept<P: PageWorld>(alloc: Global, store: &mut Store<P>, swept: Swept) -> Result<(), End>
-    ensures whole { OnOk result (P.sent (shown.pages store.new) ≡ sent_after (swept_text swept.clears swept.used) (P.sent (shown.pages store.old))) }
-    ensures stops { IfErr result (TextStops (swept_text swept.clears swept.used) (P.sent (shown.pages store.old)) (P.sent (shown.pages store.new))) }
+    ensures whole { OnOk result (P.sent (shown.pages store.new) ≡ sent_after (swept_text swept.clears swept.used)
+        (P.sent (shown.pages store.old))) }
+    ensures stops { IfErr result (TextStops (swept_text swept.clears swept.used) (P.sent (shown.pages store.old))
+        (P.sent (shown.pages store.new))) }
     ensures cause { result ≡ Err End.SendFault → HasRisen (P.send_faults (shown.pages store.old)) (P.send_faults (shown.pages store.new)) }
     ensures long { result ≢ Err End.InputTooLong }
     ensures faults { CountsFault (fault_in end_fault result) (shown.view store.old) (shown.view store.new) }
@@ -49,7 +52,8 @@ fn send_swept<P: PageWorld>(alloc: Global, store: &mut Store<P>, swept: Swept) -
     ensures left { P.left (shown.pages store.new) ≡ P.left (shown.pages store.old) }
     ensures pieces { P.pieces (shown.pages store.new) ≡ P.pieces (shown.pages store.old) }
     ensures read_faults { P.read_faults (shown.pages store.new) ≡ P.read_faults (shown.pages store.old) }
-    ensures beside { shown.Keeps (P.sends (length (swept_text swept.clears swept.used)) (shown.pages store.old) (shown.pages store.new)) store.old store.new }
+    ensures beside { shown.Keeps (P.sends (length (swept_text swept.clears swept.used)) (shown.pages store.old) (shown.pages store.new))
+        store.old store.new }
 {
     let Ok(text) = swept_text(alloc, swept) else {
         return Err(End::NoMemory);
@@ -70,7 +74,8 @@ fn answer_rule<P: PageWorld>(
     requires sound { shown.IsSound store.old }
     ensures does { shown.ForBook store.old (DoesRuleOn P.sent rule.now at result store.old store.new) }
     ensures says { OnOk result (SaysSwept (P.sent (shown.pages store.old)) (P.sent (shown.pages store.new))) }
-    ensures fails { IfErr result (RuleFails rule.now at (IsBadOn store.new) (shown.catalog store.new) (P.sent (shown.pages store.old)) (P.sent (shown.pages store.new))) }
+    ensures fails { IfErr result (RuleFails rule.now at (IsBadOn store.new) (shown.catalog store.new) (P.sent (shown.pages store.old))
+        (P.sent (shown.pages store.new))) }
     ensures goes { Goes (side_of P.Streams store.old) (side_of P.Streams store.new) }
     ensures cause { IfErr result (λ e. IsCause e (side_of P.Streams store.old) (side_of P.Streams store.new)) }
     ensures long { result ≢ Err End.InputTooLong }
@@ -95,7 +100,8 @@ pub(crate) fn answer_line<P: PageWorld>(
     requires sound { shown.IsSound store.old }
     ensures does { shown.ForBook store.old (DoesLineOn P.sent line.now at result store.old store.new) }
     ensures says { OnOk result (LineSays line.now (P.sent (shown.pages store.old)) (P.sent (shown.pages store.new))) }
-    ensures fails { IfErr result (LineFails line.now at (IsBadOn store.new) (shown.catalog store.new) (P.sent (shown.pages store.old)) (P.sent (shown.pages store.new))) }
+    ensures fails { IfErr result (LineFails line.now at (IsBadOn store.new) (shown.catalog store.new) (P.sent (shown.pages store.old))
+        (P.sent (shown.pages store.new))) }
     ensures goes { Goes (side_of P.Streams store.old) (side_of P.Streams store.new) }
     ensures cause { IfErr result (λ e. IsCause e (side_of P.Streams store.old) (side_of P.Streams store.new)) }
     ensures long { result ≢ Err End.InputTooLong }

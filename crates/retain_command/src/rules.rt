@@ -38,7 +38,8 @@ pub fn rule_of(alloc: Global, line: &[u8]) -> Result<Rule, RuleError>
 fn named(alloc: Global, bytes: &[u8]) -> Result<(Name, &[u8]), RuleError>
     ensures two { IfOk result (λ parts. tokens bytes.now ≡ parts.0 ∷ parts.1.now ∷ []) }
     ensures name { IfOk result (λ parts. IsTrue (is_name parts.0)) }
-    ensures none { result ≡ Err RuleError.NoRule → (name number : List ℕ) → tokens bytes.now ≡ name ∷ number ∷ [] → IsTrue (is_name name) → ⊥ }
+    ensures none { result ≡ Err RuleError.NoRule → (name number : List ℕ) → tokens bytes.now ≡ name ∷ number ∷ [] → IsTrue (is_name name)
+        → ⊥ }
 {
     let Some((name, number)) = cut(bytes) else {
         return Err(RuleError::NoRule);
@@ -56,7 +57,8 @@ fn named(alloc: Global, bytes: &[u8]) -> Result<(Name, &[u8]), RuleError>
 /// The rule of the tokens behind `before`.
 fn before(alloc: Global, bytes: &[u8]) -> Result<Rule, RuleError>
     ensures spelt { IfOk result (λ rule. SpellsWords rule (codes "before" ∷ tokens bytes.now)) }
-    ensures none { result ≡ Err RuleError.NoRule → (name number : List ℕ) (time : ℤ) → tokens bytes.now ≡ name ∷ number ∷ [] → IsTrue (is_name name) → SpellsInteger number time → ⊥ }
+    ensures none { result ≡ Err RuleError.NoRule → (name number : List ℕ) (time : ℤ) → tokens bytes.now ≡ name ∷ number ∷ []
+        → IsTrue (is_name name) → SpellsInteger number time → ⊥ }
 {
     match named(alloc, bytes) {
         Ok((name, number)) => match integer(number) {
@@ -70,7 +72,8 @@ fn before(alloc: Global, bytes: &[u8]) -> Result<Rule, RuleError>
 /// The rule of the tokens behind `last`.
 fn last(alloc: Global, bytes: &[u8]) -> Result<Rule, RuleError>
     ensures spelt { IfOk result (λ rule. SpellsWords rule (codes "last" ∷ tokens bytes.now)) }
-    ensures none { result ≡ Err RuleError.NoRule → (name number : List ℕ) (count : ℕ) → tokens bytes.now ≡ name ∷ number ∷ [] → IsTrue (is_name name) → SpellsNatural number count → ⊥ }
+    ensures none { result ≡ Err RuleError.NoRule → (name number : List ℕ) (count : ℕ) → tokens bytes.now ≡ name ∷ number ∷ []
+        → IsTrue (is_name name) → SpellsNatural number count → ⊥ }
 {
     match named(alloc, bytes) {
         Ok((name, number)) => match natural(number) {
@@ -84,7 +87,8 @@ fn last(alloc: Global, bytes: &[u8]) -> Result<Rule, RuleError>
 /// The rule of the token behind `free`.
 fn free(bytes: &[u8]) -> Result<Rule, RuleError>
     ensures spelt { IfOk result (λ rule. SpellsWords rule (codes "free" ∷ tokens bytes.now)) }
-    ensures none { result ≡ Err RuleError.NoRule → (number : List ℕ) (pages : ℕ) → tokens bytes.now ≡ number ∷ [] → SpellsNatural number pages → ⊥ }
+    ensures none { result ≡ Err RuleError.NoRule → (number : List ℕ) (pages : ℕ) → tokens bytes.now ≡ number ∷ []
+        → SpellsNatural number pages → ⊥ }
 {
     if cut(bytes).is_some() {
         return Err(RuleError::NoRule);

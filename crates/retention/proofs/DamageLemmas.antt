@@ -40,7 +40,8 @@ result_blames {T} (Ok v) IsBad IsThat so is = tt
 result_blames {T} (Err e) IsBad IsThat so is = blames_by e IsBad IsThat so is
 
 -- asks of nodes
-pub ask_blames : (e : SweepError) (nodes nodes' : NodesView) (IsBad : ℕ → Type 0) → ((page : ℕ) → nodes.bad (node.Damaged page) → IsBad page)
+pub ask_blames : (e : SweepError) (nodes nodes' : NodesView) (IsBad : ℕ → Type 0)
+    → ((page : ℕ) → nodes.bad (node.Damaged page) → IsBad page)
     → IsAskCause nodes nodes' e → Blames IsBad e
 ask_blames UnknownSeries nodes nodes' IsBad so cause = absurd cause
 ask_blames DiskFault nodes nodes' IsBad so cause = tt
@@ -63,7 +64,8 @@ edit_blames (store.Refused refusal) told told' s old new was size keeps same cau
 edit_blames store.NotAStore told told' s old new was size keeps same cause = tt
 edit_blames store.DiskFault told told' s old new was size keeps same cause = tt
 edit_blames (store.Damaged page) told told' s old new was size keeps same cause = λ t.
-    bad_on IsBadForEdit old new page (same.image (was t)) size (record { numbers = s; keeps = keeps (was t); so = (cause.0, cause.1 (was t)) })
+    bad_on IsBadForEdit old new page (same.image (was t)) size
+    (record { numbers = s; keeps = keeps (was t); so = (cause.0, cause.1 (was t)) })
 edit_blames store.NoMemory told told' s old new was size keeps same cause = tt
 
 -- ---- by the records
@@ -118,7 +120,8 @@ bad_any id count page image bad = record {
   so = (bad.so.0, record { id = id; asked = tt; on_way = bad.so.1 });
 }
 
-pub bad_free : (pages count page : ℕ) (image : Image) → IsBadForLook (λ name. ⊤) count image page → IsBadForLook (Asks (Free pages)) count image page
+pub bad_free : (pages count page : ℕ) (image : Image) → IsBadForLook (λ name. ⊤) count image page
+    → IsBadForLook (Asks (Free pages)) count image page
 bad_free pages count page image bad = record {
   numbers = bad.numbers;
   keeps = bad.keeps;
@@ -127,7 +130,8 @@ bad_free pages count page image bad = record {
 
 -- ---- for a sweep
 
-pub look_bad : (rule : Rule) (count page : ℕ) (image : Image) → IsBadForLook (Asks rule) count image page → IsBadForSweep rule count image page
+pub look_bad : (rule : Rule) (count page : ℕ) (image : Image) → IsBadForLook (Asks rule) count image page
+    → IsBadForSweep rule count image page
 look_bad rule count page image bad = record { numbers = bad.numbers; keeps = bad.keeps; so = (bad.so.0, inl bad.so.1) }
 
 pub clear_bad : (rule : Rule) (count page : ℕ) (image : Image) → IsBadForEdit count image page → IsBadForSweep rule count image page

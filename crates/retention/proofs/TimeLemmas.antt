@@ -1,5 +1,6 @@
 -- Slots that stand before a time.
-use Rattle.std.proofs.Common.{◌≡◌, ℕ, ℤ, zero, suc, ◌+◌, ◌-◌, ◌*◌, ◌<◌, ◌≤◌, Bool, true, false, cond, length, refl, sym, ap, ◌∙◌, arith, inl, inr}
+use Rattle.std.proofs.Common.{◌≡◌, ℕ, ℤ, zero, suc, ◌+◌, ◌-◌, ◌*◌, ◌<◌, ◌≤◌, Bool, true, false, cond, length, refl, sym, ap, ◌∙◌, arith}
+use Rattle.std.proofs.Common.{inl, inr}
 use Rattle.std.specs.Prelude.{pos, ◌/◌, ◌-ℤ◌, unsigned_abs, int_lt, ◌<ℤ◌, ◌≤ℤ◌, ◌+ℤ◌, ◌↔◌}
 use Rattle.std.proofs.Math.Nat.{le-div_iff_mul-le, mul-le-mul_right, mul-lt-mul_of_pos_right}
 use Rattle.std.proofs.lemmas.Bool.{cases_lt}
@@ -16,7 +17,8 @@ pub record IsCut (p : ℕ → Bool) (n k : ℕ) : Type 0 where
   pub above : (i : ℕ) → k ≤ i → i < n → p i ≡ false
 
 -- where a number passes with all below it, they are so many as the count says
-more_cut : (p : ℕ → Bool) (n k : ℕ) (b : Bool) → ((i j : ℕ) → i ≤ j → p j ≡ true → p i ≡ true) → IsCut p n k → p n ≡ b → IsCut p (suc n) (k + cond b 1 0)
+more_cut : (p : ℕ → Bool) (n k : ℕ) (b : Bool) → ((i j : ℕ) → i ≤ j → p j ≡ true → p i ≡ true) → IsCut p n k → p n ≡ b
+    → IsCut p (suc n) (k + cond b 1 0)
 more_cut p n k true falls is here = record {
   within = omega (arith, is.within);
   below = λ i low. falls i n (omega (arith, low, is.within)) here;
@@ -39,7 +41,11 @@ more_cut p n k false falls is here = record {
 
 cut_is : (p : ℕ → Bool) (n : ℕ) → ((i j : ℕ) → i ≤ j → p j ≡ true → p i ≡ true) → IsCut p n (count_below p n)
 unfolding count_below
-cut_is p zero falls = record { within = omega arith; below = λ i low. absurd (omega (arith, low)); above = λ i up low. absurd (omega (arith, low)) }
+cut_is p zero falls = record {
+  within = omega arith;
+  below = λ i low. absurd (omega (arith, low));
+  above = λ i up low. absurd (omega (arith, low));
+}
 cut_is p (suc n) falls = more_cut p n (count_below p n) (p n) falls (cut_is p n falls) refl
 
 -- there is one such number
@@ -88,7 +94,8 @@ pub before_few : (series : Series) (time : ℤ) → slots_before series time ≤
 before_few series time = (before_cut series time).within
 
 -- the slots before a time are those whose time is below it
-pub before_is : (series : Series) (time : ℤ) (slot : ℕ) → slot < length series.slots → (slot < slots_before series time) ↔ (slot_time series slot <ℤ time)
+pub before_is : (series : Series) (time : ℤ) (slot : ℕ) → slot < length series.slots
+    → (slot < slots_before series time) ↔ (slot_time series slot <ℤ time)
 before_is series time slot within = (
   λ low. is_less (slot_time series slot) time ((before_cut series time).below slot low),
   λ early. elim (cases_lt slot (slots_before series time)) [
@@ -101,12 +108,14 @@ before_is series time slot within = (
 )
 
 -- a number of slots that splits them so is that of the slots before the time
-pub before_count : (series : Series) (time : ℤ) (n : ℕ) → n ≤ length series.slots → ((slot : ℕ) → slot < length series.slots → (slot < n) ↔ (slot_time series slot <ℤ time)) → slots_before series time ≡ n
+pub before_count : (series : Series) (time : ℤ) (n : ℕ) → n ≤ length series.slots
+    → ((slot : ℕ) → slot < length series.slots → (slot < n) ↔ (slot_time series slot <ℤ time)) → slots_before series time ≡ n
 before_count series time n within splits =
     one_cut (test_of series time) (length series.slots) (slots_before series time) n (before_cut series time) (record {
       within = within;
       below = λ i low. less_is (slot_time series i) time ((splits i (omega (arith, low, within))).0 low);
-      above = λ i up low. not_less (slot_time series i) time (λ early. let less : i < n = (splits i low).1 early in omega (arith, less, up));
+      above = λ i up low. not_less (slot_time series i) time (λ early. let less : i < n = (splits i low).1 early in
+          omega (arith, less, up));
     })
 
 earlier : (start : ℤ) (a b : ℕ) → a < b → (start +ℤ pos a) <ℤ (start +ℤ pos b)
@@ -130,24 +139,29 @@ none_early : (start time : ℤ) (n : ℕ) → time ≤ℤ start → (start +ℤ 
 none_early start time n late early = omega (arith, ints, late, early)
 
 pub before_none : (series : Series) (time : ℤ) → time ≤ℤ series.start → 0 ≡ slots_before series time
-before_none series time late = sym (before_count series time 0 (omega arith) (λ slot within. (λ low. absurd (omega (arith, low)), λ early. absurd (none_early series.start time (slot * series.step) late early))))
+before_none series time late = sym (before_count series time 0 (omega arith)
+    (λ slot within. (λ low. absurd (omega (arith, low)), λ early. absurd (none_early series.start time (slot * series.step) late early))))
 
 -- one stands before a time where it is nearer to the start
 nearer : (start time : ℤ) (n : ℕ) → start <ℤ time → (n ≤ unsigned_abs (time -ℤ start) - 1) ↔ ((start +ℤ pos n) <ℤ time)
 nearer start time n late = (λ low. grind (arith, ints), λ early. grind (arith, ints))
 
-pub before_place : (series : Series) (time : ℤ) (slot : ℕ) → 1 ≤ series.step → series.start <ℤ time → (slot ≤ (distance series time - 1) / series.step) ↔ (slot_time series slot <ℤ time)
+pub before_place : (series : Series) (time : ℤ) (slot : ℕ) → 1 ≤ series.step → series.start <ℤ time
+    → (slot ≤ (distance series time - 1) / series.step) ↔ (slot_time series slot <ℤ time)
 before_place series time slot some late =
     let d : ℕ = distance series time - 1 in
     let steps : (slot ≤ d / series.step) ↔ (slot * series.step ≤ d) = le-div_iff_mul-le some in
     let times : (slot * series.step ≤ d) ↔ (slot_time series slot <ℤ time) = nearer series.start time (slot * series.step) late in
     (λ low. times.0 (steps.0 low), λ early. steps.1 (times.1 early))
 
-pub before_all : (series : Series) (time : ℤ) (place : ℕ) → 1 ≤ series.step → series.start <ℤ time → place ≡ (distance series time - 1) / series.step → length series.slots ≤ place → length series.slots ≡ slots_before series time
+pub before_all : (series : Series) (time : ℤ) (place : ℕ) → 1 ≤ series.step → series.start <ℤ time
+    → place ≡ (distance series time - 1) / series.step → length series.slots ≤ place → length series.slots ≡ slots_before series time
 before_all series time place some late is far =
-    sym (before_count series time (length series.slots) (omega arith) (λ slot within. (λ low. (before_place series time slot some late).0 (omega (arith, far, within, is)), λ early. within)))
+    sym (before_count series time (length series.slots) (omega arith)
+    (λ slot within. (λ low. (before_place series time slot some late).0 (omega (arith, far, within, is)), λ early. within)))
 
-pub before_some : (series : Series) (time : ℤ) (place : ℕ) → 1 ≤ series.step → series.start <ℤ time → place ≡ (distance series time - 1) / series.step → place < length series.slots → place + 1 ≡ slots_before series time
+pub before_some : (series : Series) (time : ℤ) (place : ℕ) → 1 ≤ series.step → series.start <ℤ time
+    → place ≡ (distance series time - 1) / series.step → place < length series.slots → place + 1 ≡ slots_before series time
 before_some series time place some late is near =
     sym (before_count series time (place + 1) (omega (arith, near)) (λ slot within. (
       λ low. (before_place series time slot some late).0 (omega (arith, low, is)),

@@ -59,4 +59,5 @@ module _ {P : Type 0} {g : Ghosts P} where
 
   -- a page of which the nodes of the selected series tell is one of its tree, by this id
   abbrev pub TellsBadAt : ℕ → Store P g → Type 0
-  TellsBadAt id it = (page : ℕ) → (shown.nodes it).bad (node.Damaged page) → shown.IsTold it → IsBadAt id (shown.view it).size (shown.image it) page
+  TellsBadAt id it = (page : ℕ) → (shown.nodes it).bad (node.Damaged page) → shown.IsTold it
+      → IsBadAt id (shown.view it).size (shown.image it) page

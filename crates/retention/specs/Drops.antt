@@ -44,12 +44,15 @@ pub record IsOldest (book : List Series) (found : Found) : Type 0 where
   pub there : slice_get book found.id ≡ Some found.series
   pub value : ℤ
   pub holds : Holds found.series.slots found.slot value
-  pub least : (id slot : ℕ) (series : Series) (value : ℤ) → slice_get book id ≡ Some series → Holds series.slots slot value → found_time found ≤ℤ slot_time series slot
-  pub first : (id slot : ℕ) (series : Series) (value : ℤ) → id < found.id → slice_get book id ≡ Some series → Holds series.slots slot value → found_time found <ℤ slot_time series slot
+  pub least : (id slot : ℕ) (series : Series) (value : ℤ) → slice_get book id ≡ Some series → Holds series.slots slot value
+      → found_time found ≤ℤ slot_time series slot
+  pub first : (id slot : ℕ) (series : Series) (value : ℤ) → id < found.id → slice_get book id ≡ Some series → Holds series.slots slot value
+      → found_time found <ℤ slot_time series slot
 
 -- so of each book, and of the series of a name in it
 abbrev pub ForNamed : (ℕ → List Series → List ℕ → ℕ → Series → Type 0) → Type 0
-ForNamed IsSo = (total : ℕ) (book : List Series) (name : List ℕ) (id : ℕ) (series : Series) → IsBook book → id_of name book ≡ Some id → slice_get book id ≡ Some series → IsSo total book name id series
+ForNamed IsSo = (total : ℕ) (book : List Series) (name : List ℕ) (id : ℕ) (series : Series) → IsBook book → id_of name book ≡ Some id
+    → slice_get book id ≡ Some series → IsSo total book name id series
 
 -- the book behind the clears of a rule
 abbrev pub book_swept : ℕ → List Series → Rule → List Series

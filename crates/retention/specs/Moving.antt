@@ -54,7 +54,9 @@ pub record Carries (told_old told_new : Type 0) (old new under under' : View) (t
 
 module _ {P : Type 0} {g : Ghosts P} where
   abbrev pub LooksOnly : Store P g → Store P g → Type 0
-  LooksOnly old new = Looks (shown.IsTold old) (shown.IsTold new) (shown.view old) (shown.view new) (shown.under old) (shown.under new) (shown.numbers old) (shown.numbers new) (shown.kept_catalog old) (shown.kept_catalog new)
+  LooksOnly old new = Looks (shown.IsTold old) (shown.IsTold new) (shown.view old) (shown.view new) (shown.under old) (shown.under new)
+      (shown.numbers old) (shown.numbers new) (shown.kept_catalog old) (shown.kept_catalog new)
 
   abbrev pub CarriesOn : Store P g → Store P g → Type 0
-  CarriesOn old new = Carries (shown.IsTold old) (shown.IsTold new) (shown.view old) (shown.view new) (shown.under old) (shown.under new) (shown.total old) (shown.total new) (length (shown.catalog old)) (length (shown.catalog new))
+  CarriesOn old new = Carries (shown.IsTold old) (shown.IsTold new) (shown.view old) (shown.view new) (shown.under old) (shown.under new)
+      (shown.total old) (shown.total new) (length (shown.catalog old)) (length (shown.catalog new))

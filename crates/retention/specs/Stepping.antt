@@ -42,7 +42,8 @@ pub record ClearsTo {T : Type 0} (total : ℕ) (book after : List Series) (resul
 
 -- a call does a clear that the book accepts
 abbrev pub DoesClear : {T : Type 0} → Edit → Result T SweepError → View → View → ℕ → List Series → Type 0
-DoesClear clear result old new total book = (after : List Series) (slots : ℕ) → apply book total clear ≡ Ok (record { book = after; slots = slots }) → ClearsTo total book after result old new
+DoesClear clear result old new total book = (after : List Series) (slots : ℕ)
+    → apply book total clear ≡ Ok (record { book = after; slots = slots }) → ClearsTo total book after result old new
 
 -- the next clear of the rule was done
 pub record DidNext (total : ℕ) (book : List Series) (rule : Rule) (image : Image) : Type 0 where

@@ -1,5 +1,6 @@
 -- Which clears a rule makes of a book.
-use Rattle.std.specs.Prelude.{◌≡◌, ℕ, zero, suc, ℤ, pos, ◌+◌, ◌-◌, ◌*◌, ◌/◌, ◌+ℤ◌, min, Bool, nat_le, int_lt, if◌then◌else◌, List, [], ◌∷◌, take, drop, length, map, slice_get, position, count_by, sum_by, Option, None, Some, is_some}
+use Rattle.std.specs.Prelude.{◌≡◌, ℕ, zero, suc, ℤ, pos, ◌+◌, ◌-◌, ◌*◌, ◌/◌, ◌+ℤ◌, min, Bool, nat_le, int_lt, if◌then◌else◌, List, [], ◌∷◌}
+use Rattle.std.specs.Prelude.{take, drop, length, map, slice_get, position, count_by, sum_by, Option, None, Some, is_some}
 use Rattle.std.specs.List.{list_any, filter, range_with_len}
 use Rattle.series_book.specs.declared.limits.TheConstants.{MOST_CLEARED, PAGE_SLOTS}
 use Rattle.series_book.specs.declared.one_series.Series.{Series}
@@ -47,7 +48,8 @@ range_end old q = min ((q + 1) * MOST_CLEARED) old
 -- one of them holds a value
 unfoldable pub clears_of : List ℕ → Series → ℕ → List Edit
 clears_of name series old =
-    map (λ q. clear_of name series (range_first q) (range_end old q)) (filter (λ q. holds_value series.slots (range_first q) (range_end old q)) (range_with_len 0 old))
+    map (λ q. clear_of name series (range_first q) (range_end old q))
+    (filter (λ q. holds_value series.slots (range_first q) (range_end old q)) (range_with_len 0 old))
 
 -- the series of a name, where there is one
 abbrev pub at_id : List Series → Option ℕ → Option Series
@@ -97,7 +99,8 @@ abbrev pub page_first : ℕ → ℕ
 page_first slot = slot / PAGE_SLOTS * PAGE_SLOTS
 
 abbrev pub clear_page : Found → Edit
-clear_page found = clear_of found.series.name found.series (page_first found.slot) (min (page_first found.slot + PAGE_SLOTS) (length found.series.slots))
+clear_page found = clear_of found.series.name found.series (page_first found.slot)
+    (min (page_first found.slot + PAGE_SLOTS) (length found.series.slots))
 
 -- the clears that free pages: each takes the oldest stored slot with its range, until so many pages are free or nothing
 -- is stored

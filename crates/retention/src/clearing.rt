@@ -26,7 +26,8 @@ use std::alloc::AllocError;
 fn clear_range(name: &Name, axis: Axis, old: u64, slot: u64) -> Result<Edit, AllocError>
     requires low { slot < old }
     requires few { old ≤ MOST_SLOTS }
-    ensures clear { (series : Series) → IsAxisOf series axis → IfOk result (λ clear. clear ≡ clear_of name.now series (range_first (slot / 4096)) (range_end old (slot / 4096))) }
+    ensures clear { (series : Series) → IsAxisOf series axis
+        → IfOk result (λ clear. clear ≡ clear_of name.now series (range_first (slot / 4096)) (range_end old (slot / 4096))) }
     ensures is_edit { IfOk result IsEdit }
 {
     let range = slot / MOST_CLEARED;
@@ -43,7 +44,8 @@ fn next_of<P: Pages>(
 ) -> Result<Option<Edit>, SweepError>
     requires sound { shown.IsSound store.old }
     requires there { id < length (shown.catalog store.old) }
-    ensures first { shown.ForSeries store.old id (λ total book series. IfOk result (IsFirstOrNone name.now series (old_slots rule.now series))) }
+    ensures first { shown.ForSeries store.old id (λ total book series. IfOk result
+        (IsFirstOrNone name.now series (old_slots rule.now series))) }
     ensures is_edit { IfOk result (λ next. IfSome next IsEdit) }
     ensures outside { shown.ForSeries store.old id (λ total book series. IfErr result IsOutside) }
     ensures cause { IfErr result (λ e. ReadFails e store.old store.new) }

@@ -86,7 +86,8 @@ fn oldest<P: Pages>(store: &mut Store<P>) -> Result<Option<Oldest>, SweepError>
 /// The clear of the aligned range of 128 slots that holds a stored slot.
 fn clear_page<P: Pages>(store: &Store<P>, found: Oldest) -> Result<Option<Edit>, SweepError>
     requires sound { shown.IsSound store.now }
-    ensures clear { shown.ForBook store.now (λ total book. (it : Found) → IsOldest book it → IsKept it found → IfOk result (λ next. next ≡ Some (clear_page it))) }
+    ensures clear { shown.ForBook store.now (λ total book. (it : Found) → IsOldest book it → IsKept it found
+        → IfOk result (λ next. next ≡ Some (clear_page it))) }
     ensures is_edit { IfOk result (λ next. IfSome next IsEdit) }
     ensures err { IfErr result (λ e. e ≡ SweepError.NoMemory) }
 {

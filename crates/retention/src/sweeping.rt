@@ -8,7 +8,8 @@ ghost use Rattle.retention.specs.Damage.{Asks, BlamesSo, IsBadForLook, IsBadForS
 ghost use Rattle.retention.specs.Faults.{sweep_fault};
 ghost use Rattle.retention.specs.Moving.{CarriesOn, LooksOnly, ReadsFew, clear_reads, look_reads};
 ghost use Rattle.retention.specs.Stepping.{DoesClear, StepsSo, clear_error};
-ghost use Rattle.retention.specs.Sweeping.{Commits, FailsFor, IsNextOrNone, IsOutside, IsSoundFor, IsSwept, IsSweptSome, PassesSome, PassesStep, ReadFails, StopsSo, StopsSomeSo};
+ghost use Rattle.retention.specs.Sweeping.{Commits, FailsFor, IsNextOrNone, IsOutside, IsSoundFor, IsSwept, IsSweptSome, PassesSome};
+ghost use Rattle.retention.specs.Sweeping.{PassesStep, ReadFails, StopsSo, StopsSomeSo};
 ghost use Rattle.retention.specs.Sweeps.{LacksNamed, NamesNone, sweeps, sweeps_some};
 
 use crate::clearing::next_named;
@@ -78,7 +79,8 @@ fn do_clear<P: Pages>(store: &mut Store<P>, clear: &Edit) -> Result<(), SweepErr
 /// Does the next clear of a rule, if there is one, and answers whether there was.
 fn clear_next<P: Pages>(store: &mut Store<P>, rule: &Rule) -> Result<bool, SweepError>
     requires sound { shown.IsSound store.old }
-    ensures steps { shown.ForBook store.old (λ total book. StepsSo total book rule.now result (shown.view store.old) (shown.view store.new)) }
+    ensures steps { shown.ForBook store.old (λ total book. StepsSo total book rule.now result (shown.view store.old)
+        (shown.view store.new)) }
     ensures carries { CarriesOn store.old store.new }
     ensures commits { Commits 1 store.old store.new }
     ensures idle { result ≡ Ok false → Commits 0 store.old store.new }
@@ -110,7 +112,8 @@ fn clear_some<P: Pages>(
 ) -> Result<SweptSome, SweepError>
     requires sound { shown.IsSound store.old }
     ensures known { IfErr result (λ e. e ≢ SweepError.UnknownSeries) }
-    ensures done { shown.ForBook store.old (λ total book. IfOk result (λ swept. IsSweptSome total book rule.now most swept (shown.image store.new))) }
+    ensures done { shown.ForBook store.old (λ total book. IfOk result
+        (λ swept. IsSweptSome total book rule.now most swept (shown.image store.new))) }
     ensures stops { shown.ForBook store.old (λ total book. IfErr result (StopsSomeSo total book rule.now most (shown.image store.new))) }
     ensures moments { shown.ForBook store.old (λ total book. PassesStep total book rule.now most store.old store.new) }
     ensures carries { CarriesOn store.old store.new }
@@ -122,7 +125,8 @@ fn clear_some<P: Pages>(
     ensures blames { IfErr result (λ e. BlamesSo (IsBadForSweep rule.now) e store.new) }
     ensures faults { CountsFault (fault_in sweep_fault result) (shown.view store.old) (shown.view store.new) }
     ensures reads { (shown.view store.new).reads ≤ (shown.view store.old).reads + clear_reads * (most + 1) }
-    ensures few_reads { shown.ForBook store.old (λ total book. ReadsFew (length (sweeps_some total book rule.now most)) (shown.view store.old) (shown.view store.new)) }
+    ensures few_reads { shown.ForBook store.old (λ total book. ReadsFew (length (sweeps_some total book rule.now most))
+        (shown.view store.old) (shown.view store.new)) }
     ensures sound { OnOk result (shown.IsSound store.new) }
     ensures sound_for { IfErr result (λ e. IsSoundFor e (shown.view store.new)) }
 {
@@ -182,7 +186,8 @@ pub fn sweep_some<P: Pages>(
     ensures untouched { result ≡ Err SweepError.UnknownSeries → store.new ≡ store.old }
     // whatever the pages are: the catalog that is kept lacks the name then
     ensures lacks { result ≡ Err SweepError.UnknownSeries → LacksNamed (shown.catalog store.old) rule.now }
-    ensures done { shown.ForBook store.old (λ total book. IfOk result (λ swept. IsSweptSome total book rule.now most swept (shown.image store.new))) }
+    ensures done { shown.ForBook store.old (λ total book. IfOk result
+        (λ swept. IsSweptSome total book rule.now most swept (shown.image store.new))) }
     ensures stops { shown.ForBook store.old (λ total book. IfErr result (StopsSomeSo total book rule.now most (shown.image store.new))) }
     // a crash at any moment leaves the book behind some first clears of the step
     ensures moments { shown.ForBook store.old (λ total book. PassesStep total book rule.now most store.old store.new) }
@@ -199,7 +204,8 @@ pub fn sweep_some<P: Pages>(
     ensures faults { CountsFault (fault_in sweep_fault result) (shown.view store.old) (shown.view store.new) }
     // whatever the pages are
     ensures reads { (shown.view store.new).reads ≤ (shown.view store.old).reads + clear_reads * (most + 1) }
-    ensures few_reads { shown.ForBook store.old (λ total book. ReadsFew (length (sweeps_some total book rule.now most)) (shown.view store.old) (shown.view store.new)) }
+    ensures few_reads { shown.ForBook store.old (λ total book. ReadsFew (length (sweeps_some total book rule.now most))
+        (shown.view store.old) (shown.view store.new)) }
     ensures sound { OnOk result (shown.IsSound store.new) }
     ensures sound_for { IfErr result (λ e. IsSoundFor e (shown.view store.new)) }
 {
@@ -221,14 +227,16 @@ pub fn sweep<P: Pages>(store: &mut Store<P>, rule: &Rule) -> Result<Swept, Sweep
     ensures untouched { result ≡ Err SweepError.UnknownSeries → store.new ≡ store.old }
     // whatever the pages are: the catalog that is kept lacks the name then
     ensures lacks { result ≡ Err SweepError.UnknownSeries → LacksNamed (shown.catalog store.old) rule.now }
-    ensures done { shown.ForBook store.old (λ total book. IfOk result (λ swept. IsSwept total book rule.now swept (shown.image store.new))) }
+    ensures done { shown.ForBook store.old (λ total book. IfOk result
+        (λ swept. IsSwept total book rule.now swept (shown.image store.new))) }
     ensures stops { shown.ForBook store.old (λ total book. IfErr result (StopsSo total book rule.now (shown.image store.new))) }
     // a crash at any moment leaves the book behind some first clears of the rule
     ensures moments { shown.ForBook store.old (λ total book. PassesSome total book rule.now store.old store.new) }
     ensures carries { CarriesOn store.old store.new }
     // each clear is one commit at most, whatever is answered
     ensures commits { shown.ForBook store.old (λ total book. Commits (length (sweeps total book rule.now)) store.old store.new) }
-    ensures few_reads { shown.ForBook store.old (λ total book. ReadsFew (length (sweeps total book rule.now)) (shown.view store.old) (shown.view store.new)) }
+    ensures few_reads { shown.ForBook store.old (λ total book. ReadsFew (length (sweeps total book rule.now)) (shown.view store.old)
+        (shown.view store.new)) }
     ensures each { IfOk result (λ swept. Commits swept.clears store.old store.new) }
     ensures cause { IfErr result (λ e. FailsFor e store.old store.new) }
     // a page that is called damaged is so in the series that the rule names, or in any where it frees pages, or for a clear

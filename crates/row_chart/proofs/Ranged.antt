@@ -1,5 +1,6 @@
 -- The range of values that rows show is that of their points.
-use Rattle.std.proofs.Common.{◌≡◌, ℕ, ℤ, pos, ◌<◌, ◌≤ℤ◌, ◌⊎◌, inl, inr, zero, suc, List, [], ◌∷◌, ◌++◌, length, map, get_or, Option, None, Some, unwrap_or, All, Contains, sym, ap, subst, refl, arith}
+use Rattle.std.proofs.Common.{◌≡◌, ℕ, ℤ, pos, ◌<◌, ◌≤ℤ◌, ◌⊎◌, inl, inr, zero, suc, List, [], ◌∷◌, ◌++◌, length, map, get_or, Option, None}
+use Rattle.std.proofs.Common.{Some, unwrap_or, All, Contains, sym, ap, subst, refl, arith}
 use Rattle.std.specs.Int.{int_min, int_max}
 use Rattle.std.proofs.lemmas.Int.{ints}
 use Rattle.std.proofs.lemmas.Bool.{cases_eq}
@@ -38,14 +39,16 @@ max-right : (a b : ℤ) → b ≤ℤ int_max a b
 max-right a b = grind (arith, ints)
 
 -- one of two numbers is among the values of all rows
-among-more : (f : Row → ℤ) (rows : List Row) (r : Row) (a m : ℤ) → Contains (map f rows) a → (m ≡ a) ⊎ (m ≡ f r) → Contains (map f (rows ++ r ∷ [])) m
+among-more : (f : Row → ℤ) (rows : List Row) (r : Row) (a m : ℤ) → Contains (map f rows) a → (m ≡ a) ⊎ (m ≡ f r)
+    → Contains (map f (rows ++ r ∷ [])) m
 among-more f rows r a m old is =
     let P : ℤ → Type 0 = λ v. Contains (map f (rows ++ r ∷ [])) v in
     let Q : List ℤ → Type 0 = λ vs. Contains vs a in
     let R : List ℤ → Type 0 = λ vs. Contains vs (f r) in
     elim is [
       | inl e ↦ subst P (sym e) (subst Q (sym (map-append f rows (r ∷ []))) (Contains-append_left (map f rows) (f r ∷ []) a old))
-      | inr e ↦ subst P (sym e) (subst R (sym (map-append f rows (r ∷ []))) (Contains-append_right (map f rows) (f r ∷ []) (f r) (Contains-here (f r) [])))
+      | inr e ↦ subst P (sym e) (subst R (sym (map-append f rows (r ∷ [])))
+          (Contains-append_right (map f rows) (f r ∷ []) (f r) (Contains-here (f r) [])))
     ]
 
 alone : (P : Row → Type 0) (r : Row) → P r → All P (r ∷ [])
@@ -66,9 +69,11 @@ span_more rows r a b low high s =
       none_below = subst B (sym low) (All-append (λ (q : Row). int_min a.lo r.least ≤ℤ q.least) rows (r ∷ [])
           (weaker (λ q. a.lo ≤ℤ q.least) (λ q. int_min a.lo r.least ≤ℤ q.least) rows (λ q h. min-left a.lo r.least q.least h) s.none_below)
           (alone (λ q. int_min a.lo r.least ≤ℤ q.least) r (min-right a.lo r.least)));
-      greatest = subst G (sym high) (among-more (λ (r : Row). r.greatest) rows r a.hi (int_max a.hi r.greatest) s.greatest (max-either a.hi r.greatest));
+      greatest = subst G (sym high) (among-more (λ (r : Row). r.greatest) rows r a.hi (int_max a.hi r.greatest) s.greatest
+          (max-either a.hi r.greatest));
       none_above = subst A (sym high) (All-append (λ (q : Row). q.greatest ≤ℤ int_max a.hi r.greatest) rows (r ∷ [])
-          (weaker (λ q. q.greatest ≤ℤ a.hi) (λ q. q.greatest ≤ℤ int_max a.hi r.greatest) rows (λ q h. max-left a.hi r.greatest q.greatest h) s.none_above)
+          (weaker (λ q. q.greatest ≤ℤ a.hi) (λ q. q.greatest ≤ℤ int_max a.hi r.greatest) rows
+          (λ q h. max-left a.hi r.greatest q.greatest h) s.none_above)
           (alone (λ q. q.greatest ≤ℤ int_max a.hi r.greatest) r (max-right a.hi r.greatest)));
     }
 
@@ -84,13 +89,16 @@ among-own g c p points v h ih = elim (head-or-tail p.1 v (values_in c (spots g p
 ]
 
 -- a value of a column is one of the points'
-among-points : (g : Grid) (c : ℕ) (points : List (ℤ × ℤ)) (v : ℤ) → Contains (values_in c (spots g points)) v → Contains (values_at points) v
+among-points : (g : Grid) (c : ℕ) (points : List (ℤ × ℤ)) (v : ℤ) → Contains (values_in c (spots g points)) v
+    → Contains (values_at points) v
 among-points g c [] v h = absurd (omega (arith, h.1))
 among-points g c (p ∷ points) v h =
     let s : Point = record { x = column g p.0; y = p.1 } in
     elim (cases_eq s.x c) [
-      | inl same ↦ among-own g c p points v (subst (λ (vs : List ℤ). Contains vs v) (values_in-own c s (spots g points) same) h) (among-points g c points v)
-      | inr other ↦ Contains-later p.1 v (values_at points) (among-points g c points v (subst (λ (vs : List ℤ). Contains vs v) (values_in-other c s (spots g points) other) h))
+      | inl same ↦ among-own g c p points v (subst (λ (vs : List ℤ). Contains vs v) (values_in-own c s (spots g points) same) h)
+          (among-points g c points v)
+      | inr other ↦ Contains-later p.1 v (values_at points)
+          (among-points g c points v (subst (λ (vs : List ℤ). Contains vs v) (values_in-other c s (spots g points) other) h))
     ]
 
 -- a point's value is one of its column's
@@ -118,7 +126,8 @@ row-at (r ∷ rows) c (suc k, low, is) =
     let found = row-at rows c (k, omega (arith, low), is) in (suc found.0, omega (arith, found.1), λ d. found.2 d)
 
 -- a row with a least value among the rows
-row-with : (f : Row → ℤ) (rows : List Row) (v : ℤ) → Contains (map f rows) v → (k : ℕ) × (k < length rows) × ((d : Row) → f (get_or rows k d) ≡ v)
+row-with : (f : Row → ℤ) (rows : List Row) (v : ℤ) → Contains (map f rows) v
+    → (k : ℕ) × (k < length rows) × ((d : Row) → f (get_or rows k d) ≡ v)
 row-with f [] v h = absurd (omega (arith, h.1))
 row-with f (r ∷ rows) v (zero, low, is) = (0, omega arith, λ d. is)
 row-with f (r ∷ rows) v (suc k, low, is) =
@@ -127,7 +136,8 @@ row-with f (r ∷ rows) v (suc k, low, is) =
 some-row : Row
 some-row = record { column = 0; first = pos 0; least = pos 0; greatest = pos 0; last = pos 0 }
 
-value-at : (points : List (ℤ × ℤ)) (k : ℕ) (d : ℤ) → k < length (values_at points) → (k < length points) × (get_or (values_at points) k d ≡ (get_or points k (pos 0, pos 0)).1)
+value-at : (points : List (ℤ × ℤ)) (k : ℕ) (d : ℤ) → k < length (values_at points)
+    → (k < length points) × (get_or (values_at points) k d ≡ (get_or points k (pos 0, pos 0)).1)
 value-at [] k d low = absurd (omega (arith, low))
 value-at (p ∷ points) zero d low = (omega arith, refl)
 value-at (p ∷ points) (suc k) d low = let rest = value-at points k d (omega (arith, low)) in (omega (arith, rest.0), rest.1)
@@ -140,7 +150,8 @@ spot-at g (p ∷ points) (suc k) d low = let rest = spot-at g points k d (omega 
 
 -- a row has each point's value between its ends
 row-holds : (g : Grid) (points : List (ℤ × ℤ)) (rows : List Row) → AreRowsOf g points rows → (k : ℕ) (d : ℤ) → k < length (values_at points)
-    → (j : ℕ) × (j < length rows) × ((get_or rows j some-row).least ≤ℤ get_or (values_at points) k d) × (get_or (values_at points) k d ≤ℤ (get_or rows j some-row).greatest)
+    → (j : ℕ) × (j < length rows) × ((get_or rows j some-row).least ≤ℤ get_or (values_at points) k d)
+    × (get_or (values_at points) k d ≤ℤ (get_or rows j some-row).greatest)
 row-holds g points rows own k d inside =
     let p = get_or points k (pos 0, pos 0) in
     let is = value-at points k d inside in
@@ -153,21 +164,26 @@ row-holds g points rows own k d inside =
     subst (λ (c : ℕ). Contains (values_in c (spots g points)) p.1) (sym (row.2 some-row)) (in-column g points k (pos 0, pos 0) is.0) in (
       row.0,
       row.1,
-      subst (λ (v : ℤ). r.least ≤ℤ v) (sym is.1) (All-contains (λ v. r.least ≤ℤ v) (values_in r.column (spots g points)) p.1 sums.least.least among),
-      subst (λ (v : ℤ). v ≤ℤ r.greatest) (sym is.1) (All-contains (λ v. v ≤ℤ r.greatest) (values_in r.column (spots g points)) p.1 sums.greatest.greatest among),
+      subst (λ (v : ℤ). r.least ≤ℤ v) (sym is.1) (All-contains (λ v. r.least ≤ℤ v)
+          (values_in r.column (spots g points)) p.1 sums.least.least among),
+      subst (λ (v : ℤ). v ≤ℤ r.greatest) (sym is.1)
+          (All-contains (λ v. v ≤ℤ r.greatest) (values_in r.column (spots g points)) p.1 sums.greatest.greatest among),
     )
 
-point-above : (g : Grid) (points : List (ℤ × ℤ)) (rows : List Row) (a : ValueRange) → AreRowsOf g points rows → SpanRows rows a → (k : ℕ) (d : ℤ) → k < length (values_at points)
+point-above : (g : Grid) (points : List (ℤ × ℤ)) (rows : List Row) (a : ValueRange) → AreRowsOf g points rows → SpanRows rows a
+    → (k : ℕ) (d : ℤ) → k < length (values_at points)
     → a.lo ≤ℤ get_or (values_at points) k d
 point-above g points rows a own s k d inside =
     let row = row-holds g points rows own k d inside in omega (arith, ints, s.none_below row.0 some-row row.1, row.2)
 
-point-below : (g : Grid) (points : List (ℤ × ℤ)) (rows : List Row) (a : ValueRange) → AreRowsOf g points rows → SpanRows rows a → (k : ℕ) (d : ℤ) → k < length (values_at points)
+point-below : (g : Grid) (points : List (ℤ × ℤ)) (rows : List Row) (a : ValueRange) → AreRowsOf g points rows → SpanRows rows a
+    → (k : ℕ) (d : ℤ) → k < length (values_at points)
     → get_or (values_at points) k d ≤ℤ a.hi
 point-below g points rows a own s k d inside =
     let row = row-holds g points rows own k d inside in omega (arith, ints, s.none_above row.0 some-row row.1, row.3)
 
-spans-points : (g : Grid) (points : List (ℤ × ℤ)) (rows : List Row) (a : ValueRange) → AreRowsOf g points rows → SpanRows rows a → Spans (values_at points) a
+spans-points : (g : Grid) (points : List (ℤ × ℤ)) (rows : List Row) (a : ValueRange) → AreRowsOf g points rows → SpanRows rows a
+    → Spans (values_at points) a
 spans-points g points rows a own s =
     let low = row-with (λ (r : Row). r.least) rows a.lo s.least in
     let high = row-with (λ (r : Row). r.greatest) rows a.hi s.greatest in
@@ -175,25 +191,33 @@ spans-points g points rows a own s =
     let h = get_or rows high.0 some-row in
     record {
       least = among-points g l.column points a.lo
-          (subst (λ (v : ℤ). Contains (values_in l.column (spots g points)) v) (low.2 some-row) (own.each low.0 some-row low.1).least.among);
+          (subst (λ (v : ℤ). Contains (values_in l.column (spots g points)) v) (low.2 some-row)
+          (own.each low.0 some-row low.1).least.among);
       greatest = among-points g h.column points a.hi
-          (subst (λ (v : ℤ). Contains (values_in h.column (spots g points)) v) (high.2 some-row) (own.each high.0 some-row high.1).greatest.among);
+          (subst (λ (v : ℤ). Contains (values_in h.column (spots g points)) v) (high.2 some-row)
+          (own.each high.0 some-row high.1).greatest.among);
       none_below = λ k d inside. point-above g points rows a own s k d inside;
       none_above = λ k d inside. point-below g points rows a own s k d inside;
     }
 
 pub range_from : (g : Grid) (points : List (ℤ × ℤ)) (rows : List Row) (o : Option ValueRange) (zero_range : ValueRange)
-    → zero_range.lo ≡ pos 0 → zero_range.hi ≡ pos 0 → AreRowsOf g points rows → SpansRows o rows → IsRange (values_at points) (unwrap_or o zero_range)
+    → zero_range.lo ≡ pos 0 → zero_range.hi ≡ pos 0 → AreRowsOf g points rows → SpansRows o rows
+    → IsRange (values_at points) (unwrap_or o zero_range)
 range_from g [] rows None z low high own s = (low, high)
 range_from g (p ∷ points) rows None z low high own s =
-    absurd (omega (arith, (subst (λ (rs : List Row). Contains (columns_of rs) (column g p.0)) s (own.every 0 (record { x = 0; y = pos 0 }) (omega arith))).1))
+    absurd (omega (
+      arith,
+      (subst (λ (rs : List Row). Contains (columns_of rs) (column g p.0)) s
+          (own.every 0 (record { x = 0; y = pos 0 }) (omega arith))).1,
+    ))
 range_from g [] rows (Some a) z low high own s =
     let found = row-with (λ (r : Row). r.least) rows a.lo s.least in
     absurd (omega (arith, (own.each found.0 some-row found.1).least.among.1))
 range_from g (p ∷ points) rows (Some a) z low high own s = spans-points g (p ∷ points) rows a own s
 
 -- its ends are values that a series can hold
-pub range_sizes : (w : ℕ) (rows : List Row) (o : Option ValueRange) (z : ValueRange) → z.lo ≡ pos 0 → z.hi ≡ pos 0 → All (IsDrawable w) rows → SpansRows o rows
+pub range_sizes : (w : ℕ) (rows : List Row) (o : Option ValueRange) (z : ValueRange) → z.lo ≡ pos 0 → z.hi ≡ pos 0 → All (IsDrawable w) rows
+    → SpansRows o rows
     → IsValue (unwrap_or o z).lo × IsValue (unwrap_or o z).hi
 range_sizes w rows None z low high drawable s =
     (subst (λ (v : ℤ). IsValue v) (sym low) (omega arith), subst (λ (v : ℤ). IsValue v) (sym high) (omega arith))
@@ -210,7 +234,8 @@ values-same [] = refl
 values-same (s ∷ samples) = ap (λ vs. s.value ∷ vs) (values-same samples)
 
 -- and they are in order
-pub range_rises : (w : ℕ) (rows : List Row) (o : Option ValueRange) (z : ValueRange) → z.lo ≡ pos 0 → z.hi ≡ pos 0 → All (IsDrawable w) rows → SpansRows o rows
+pub range_rises : (w : ℕ) (rows : List Row) (o : Option ValueRange) (z : ValueRange) → z.lo ≡ pos 0 → z.hi ≡ pos 0 → All (IsDrawable w) rows
+    → SpansRows o rows
     → (unwrap_or o z).lo ≤ℤ (unwrap_or o z).hi
 range_rises w rows None z low high drawable s = omega (arith, ints, low, high)
 range_rises w rows (Some a) z low high drawable s =

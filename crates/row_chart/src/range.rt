@@ -15,7 +15,8 @@ use plain_chart::ValueRange;
 /// The least and the greatest value of the samples whose rows these are, and 0 and 0 where there are
 /// none.
 pub fn range_of_rows(rows: &Rows) -> ValueRange
-    ensures range { (grid : Grid) (samples : List Sample) → AreRowsOf grid (sample_points samples) rows.now → IsRange (values_of samples) result }
+    ensures range { (grid : Grid) (samples : List Sample) → AreRowsOf grid (sample_points samples) rows.now
+        → IsRange (values_of samples) result }
     ensures order { (w : ℕ) → All (IsDrawable w) rows.now → result.lo ≤ℤ result.hi }
     ensures sizes { (w : ℕ) → All (IsDrawable w) rows.now → IsValue result.lo × IsValue result.hi }
 {

@@ -1,7 +1,8 @@
 -- The table of statuses: the code and the place of each end.
 use Rattle.std.specs.Prelude.{ℕ, ◌+◌, ◌*◌, ◌^◌}
 use Rattle.run_ends.specs.declared.ending.End.{End}
-use Rattle.run_ends.specs.declared.ending.End.TheVariants.{Done, WrongWords, NoMemory, ReadFault, SendFault, DiskFault, DamagedBlock, DamagedPage}
+use Rattle.run_ends.specs.declared.ending.End.TheVariants.{Done, WrongWords, NoMemory, ReadFault, SendFault, DiskFault, DamagedBlock}
+use Rattle.run_ends.specs.declared.ending.End.TheVariants.{DamagedPage}
 use Rattle.run_ends.specs.declared.ending.End.TheVariants.{BadInput, InputTooLong, TooMuch, Missing, BadCoefficient, TooSmall, IsStore}
 use Rattle.run_ends.specs.declared.ending.End.TheVariants.{UnknownSeries, Refused, UnknownSession, RefusedLine, NoSeries}
 use Rattle.run_ends.specs.declared.status.Status.{Status}

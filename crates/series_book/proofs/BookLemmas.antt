@@ -1,17 +1,21 @@
-use Rattle.std.proofs.Common.{◌≡◌, ◌≢◌, ℕ, ◌+◌, ◌-◌, ◌*◌, ◌<◌, ◌≤◌, min, max, Bool, true, false, cond, ltb, List, [], ◌∷◌, ◌++◌, length, take, drop, replicate, map, set, get_or, Option, Some, None, ℤ, All, AllPairs, sum_by, refl, sym, ap, ◌∙◌, subst, arith}
+use Rattle.std.proofs.Common.{◌≡◌, ◌≢◌, ℕ, ◌+◌, ◌-◌, ◌*◌, ◌<◌, ◌≤◌, min, max, Bool, true, false, cond, ltb, List, [], ◌∷◌, ◌++◌, length}
+use Rattle.std.proofs.Common.{take, drop, replicate, map, set, get_or, Option, Some, None, ℤ, All, AllPairs, sum_by, refl, sym, ap, ◌∙◌}
+use Rattle.std.proofs.Common.{subst, arith}
 use Rattle.std.specs.List.{position_or_len, slice_get}
 use Rattle.std.specs.Prelude.{unsigned_abs, IsTrue}
 use Rattle.std.specs.Str.{bytes_eq}
 use Rattle.std.specs.Option.{IsSomeAnd}
 use Rattle.std.proofs.Math.Seq.{map-set_same}
 use Rattle.std.proofs.lemmas.Bool.Decides.{nat_tests}
-use Rattle.std.proofs.lemmas.List.{get_or-set_same, take_all, length-append, length-replicate, length-take, length-drop, length-set, length_push, length-map, map_push, get_or-map}
+use Rattle.std.proofs.lemmas.List.{get_or-set_same, take_all, length-append, length-replicate, length-take, length-drop, length-set}
+use Rattle.std.proofs.lemmas.List.{length_push, length-map, map_push, get_or-map}
 use Rattle.std.proofs.lemmas.List.Elements.{All-push, All-set, All-append, All-take, All-drop, All-replicate}
 use Rattle.std.proofs.lemmas.List.Quantifiers.{all_pairs_push}
 use Rattle.std.proofs.lemmas.List.Sums.{fails_before_first, sum_by-set, sum_by_push, sum_by-le, get_or-le-sum_by}
 use Rattle.std.proofs.lemmas.Option.{get_or_from_slice_get, slice_get_within, slice_get_read}
 use Rattle.std.proofs.lemmas.Slice.Eq.{bytes_eq-Decides}
-use Rattle.series_book.specs.declared.limits.TheConstants.{MOST_SLOTS, MOST_SERIES, FIXED_PAGES, GREATEST_START, GREATEST_STEP, GREATEST_SCALE}
+use Rattle.series_book.specs.declared.limits.TheConstants.{MOST_SLOTS, MOST_SERIES, FIXED_PAGES, GREATEST_START, GREATEST_STEP}
+use Rattle.series_book.specs.declared.limits.TheConstants.{GREATEST_SCALE}
 use Rattle.whole_number.specs.SlotTimes.{EndsInTime}
 use Rattle.whole_number.proofs.SlotTimes.{none_in_time, fewer_in_time}
 use Rattle.series_book.specs.declared.one_series.Series.{Series}
@@ -62,14 +66,17 @@ IsBook-set book id old new is there in_range named = record {
   all_in_range = All-set IsSeries book id new in_range is.all_in_range;
   distinct =
       let names : List Series → List (List ℕ) = map (λ series. series.name) in
-      let same : new.name ≡ (get_or book id old).name = named ∙ ap (λ series. series.name) (sym (get_or_from_slice_get book id old old there)) in
+      let same : new.name ≡ (get_or book id old).name = named
+      ∙ ap (λ series. series.name) (sym (get_or_from_slice_get book id old old there)) in
       let P : List (List ℕ) → Type 0 = λ xs. AllPairs (λ one other. one ≢ other) xs in
       subst P (sym (map-set_same (λ series. series.name) book id new old same)) is.distinct;
 }
 
 -- a series without slots
-pub IsSeries-new : (name : List ℕ) (start : ℤ) (step scale : ℕ) (series : Series) → series ≡ record { name = name; start = start; step = step; scale = scale; slots = [] }
-    → IsTrue (is_name name) → unsigned_abs start ≤ GREATEST_START → 1 ≤ step → step ≤ GREATEST_STEP → scale ≤ GREATEST_SCALE → IsSeries series
+pub IsSeries-new : (name : List ℕ) (start : ℤ) (step scale : ℕ) (series : Series)
+    → series ≡ record { name = name; start = start; step = step; scale = scale; slots = [] }
+    → IsTrue (is_name name) → unsigned_abs start ≤ GREATEST_START → 1 ≤ step → step ≤ GREATEST_STEP → scale ≤ GREATEST_SCALE
+    → IsSeries series
 IsSeries-new name start step scale series series_is named start_fits step_above step_fits scale_fits =
     subst IsSeries (sym series_is)
     (record {
@@ -98,10 +105,18 @@ IsSeries-overwritten series place run is in_range room last =
       step_in_range = is.step_in_range;
       scale_in_range = is.scale_in_range;
       slots_in_range =
-          omega (arith, is.slots_in_range, length-append {A = Option ℤ}, length-take {A = Option ℤ}, length-drop {A = Option ℤ}, length-replicate {A = Option ℤ});
+          omega (
+            arith,
+            is.slots_in_range,
+            length-append {A = Option ℤ},
+            length-take {A = Option ℤ},
+            length-drop {A = Option ℤ},
+            length-replicate {A = Option ℤ},
+          );
       last_in_range = subst (EndsInTime series.start series.step) (sym (length-overwritten series.slots run place)) last;
       values_in_range =
-          All-append fits (take place series.slots ++ replicate (place - length series.slots) None ++ run) (drop (place + length run) series.slots)
+          All-append fits (take place series.slots ++ replicate (place - length series.slots) None ++ run)
+          (drop (place + length run) series.slots)
           (All-append fits (take place series.slots ++ replicate (place - length series.slots) None) run
           (All-append fits (take place series.slots) (replicate (place - length series.slots) None)
           (All-take fits place series.slots is.values_in_range)
@@ -113,7 +128,8 @@ IsSeries-overwritten series place run is in_range room last =
 -- a series with a run taken back
 pub IsSeries-taken_back : (series : Series) (place before : ℕ) (displaced after : List (Option ℤ)) → IsSeries series
     → All (λ value. is_too_large value ≡ false) displaced → before ≤ length series.slots → length displaced ≤ before - place
-    → after ≡ take (min place before) (take before series.slots) ++ displaced ++ drop (min place before + length displaced) (take before series.slots)
+    → after ≡ take (min place before) (take before series.slots) ++ displaced ++ drop (min place before + length displaced)
+    (take before series.slots)
     → IsSeries (record series { slots = after })
 IsSeries-taken_back series place before displaced after is in_range shorter within after_is =
     let fits : Option ℤ → Type 0 = λ value. is_too_large value ≡ false in
@@ -127,7 +143,14 @@ IsSeries-taken_back series place before displaced after is in_range shorter with
       step_in_range = is.step_in_range;
       scale_in_range = is.scale_in_range;
       slots_in_range =
-          omega (arith, is.slots_in_range, ap length after_is, length-append {A = Option ℤ}, length-take {A = Option ℤ}, length-drop {A = Option ℤ});
+          omega (
+            arith,
+            is.slots_in_range,
+            ap length after_is,
+            length-append {A = Option ℤ},
+            length-take {A = Option ℤ},
+            length-drop {A = Option ℤ},
+          );
       last_in_range = fewer_in_time series.start series.step (length series.slots) (length after)
           (omega (arith, ap length after_is, length-append {A = Option ℤ}, length-take {A = Option ℤ}, length-drop {A = Option ℤ}))
           is.last_in_range;
@@ -182,7 +205,8 @@ pub with_slots_same : (items book : List Series) (id : ℕ) (series : Series) (s
 with_slots_same items book id series slots slots' same same_slots = rw (same, same_slots) refl
 
 -- the series that a borrow of a book's element reads
-pub there_from_read : (items book : List Series) (id : ℕ) (series : Series) → items ≡ book → id < length book → series ≡ get_or items id series
+pub there_from_read : (items book : List Series) (id : ℕ) (series : Series) → items ≡ book → id < length book
+    → series ≡ get_or items id series
     → slice_get items id ≡ Some series
 there_from_read items book id series same within read =
     slice_get_read items (length items) id series refl (omega (arith, ap length same)) read
@@ -216,5 +240,6 @@ pages_of-changed book changed id used old_pages new_pages old new slots used_is 
     let new_pages_is : new_pages ≡ series_pages slots = new_is ∙ ap series_pages slots_are in
     let moved : pages_of changed ≡ pages_of (set book id written) = ap pages_of changed_is in
     let among : series_pages old.slots ≤ pages_of book = series_pages-le book id old there in
-    let sum : pages_of (set book id written) + series_pages old.slots ≡ pages_of book + series_pages slots = pages_of-set book id old written there in
+    let sum : pages_of (set book id written) + series_pages old.slots ≡ pages_of book + series_pages slots = pages_of-set book id old
+    written there in
     (omega arith, omega arith)

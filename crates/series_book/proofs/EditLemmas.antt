@@ -1,4 +1,5 @@
-use Rattle.std.proofs.Common.{◌≡◌, ℕ, ◌+◌, ◌-◌, ◌<◌, ◌≤◌, min, take, drop, true, false, ltb, leb, List, [], ◌∷◌, ◌++◌, length, set, replicate, Option, Some, None, Ok, Err, ℤ, IfSome, refl, sym, ap, ◌∙◌, subst, arith}
+use Rattle.std.proofs.Common.{◌≡◌, ℕ, ◌+◌, ◌-◌, ◌<◌, ◌≤◌, min, take, drop, true, false, ltb, leb, List, [], ◌∷◌, ◌++◌, length, set}
+use Rattle.std.proofs.Common.{replicate, Option, Some, None, Ok, Err, ℤ, IfSome, refl, sym, ap, ◌∙◌, subst, arith}
 use Rattle.std.specs.Option.{is_some}
 use Rattle.std.specs.List.{slice_get}
 use Rattle.std.proofs.lemmas.Bool.Decides.{nat_tests}
@@ -22,7 +23,8 @@ pub series_pages-nil : (slots : List (Option ℤ)) → slots ≡ [] → series_p
 unfolding series_pages page_levels first_covering level_pages ranges_with_value count_below
 series_pages-nil slots none = let P : List (Option ℤ) → Type 0 = λ slots. series_pages slots ≡ 0 in subst P (sym none) refl
 
-pub created-exists : (book : List Series) (series : Series) → is_some (id_of series.name book) ≡ true → created book series ≡ Err SeriesExists
+pub created-exists : (book : List Series) (series : Series) → is_some (id_of series.name book) ≡ true
+    → created book series ≡ Err SeriesExists
 unfolding created
 created-exists book series there = rw there refl
 
@@ -63,7 +65,8 @@ pub slice_get-set : (book changed : List Series) (id : ℕ) (old new : Series) �
 slice_get-set book changed id old new there changed_is =
     let within' : id < length book = slice_get_within book id old there in
     let long : id < length (set book id new) = omega (arith, length-set book id new) in
-    ap (λ xs. slice_get xs id) changed_is ∙ slice_get-get_or (set book id new) id new long ∙ ap Some (get_or-set_same book id new new within')
+    ap (λ xs. slice_get xs id) changed_is ∙ slice_get-get_or (set book id new) id new long
+    ∙ ap Some (get_or-set_same book id new new within')
 
 -- a book whose series is put back is as it was
 pub restored : (book changed : List Series) (id : ℕ) (old new : Series) → slice_get book id ≡ Some old → changed ≡ set book id new
@@ -92,14 +95,16 @@ append_is book total name id series values run place found there accepted place_
     rw (found, there, accepted, place_is, run_is, overwritten-end) refl
 
 -- a clear, as the code does it
-pub clear_is : (book changed : List Series) (name : List ℕ) (id : ℕ) (series : Series) (time : ℤ) (count place from n slots : ℕ) (run : List (Option ℤ))
+pub clear_is : (book changed : List Series) (name : List ℕ) (id : ℕ) (series : Series) (time : ℤ) (count place from n slots : ℕ)
+    (run : List (Option ℤ))
     → id_of name book ≡ Some id → slice_get book id ≡ Some series → cleared_at series time count ≡ Ok (cleared series.slots place count)
     → from ≡ min place (length series.slots) → n ≡ min (from + count) (length series.slots) - from → run ≡ replicate n None
     → changed ≡ set book id (record series { slots = overwritten series.slots from run }) → slots ≡ length series.slots
     → change_at book (id_of name book) (λ id series. unbounded book id series (cleared_at series time count))
     ≡ Ok (record { book = changed; slots = slots })
 clear_is book changed name id series time count place from n slots run found there accepted from_is n_is run_is changed_is slots_is =
-    let same : overwritten series.slots from run ≡ cleared series.slots place count = overwritten-cleared series.slots run place count from n from_is n_is run_is in
+    let same : overwritten series.slots from run ≡ cleared series.slots place count = overwritten-cleared series.slots run place count from
+    n from_is n_is run_is in
     let long : length run ≡ n = ap length run_is ∙ length-replicate n None in
     let kept : length (cleared series.slots place count) ≡ length series.slots =
     omega (arith, ap length same, length-overwritten series.slots run from) in

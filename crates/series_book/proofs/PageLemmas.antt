@@ -1,4 +1,5 @@
-use Rattle.std.proofs.Common.{◌≡◌, ℕ, zero, suc, ◌+◌, ◌*◌, ◌^◌, ◌<◌, ◌≤◌, Bool, true, false, cond, leb, List, [], ◌∷◌, length, take, drop, min, Option, ℤ, ◌-◌, zero-add, refl, sym, ap, ◌∙◌, arith, lit<, lit≤}
+use Rattle.std.proofs.Common.{◌≡◌, ℕ, zero, suc, ◌+◌, ◌*◌, ◌^◌, ◌<◌, ◌≤◌, Bool, true, false, cond, leb, List, [], ◌∷◌, length, take, drop}
+use Rattle.std.proofs.Common.{min, Option, ℤ, ◌-◌, zero-add, refl, sym, ap, ◌∙◌, arith, lit<, lit≤}
 use Rattle.std.specs.Option.{is_some}
 use Rattle.std.specs.List.{list_any}
 use Rattle.std.proofs.Math.Nat.{mul-le-mul_left, mul-le-mul_right}
@@ -37,7 +38,8 @@ count_below-past p n (suc more) fails =
 pub count_below-le : (p : ℕ → Bool) (n : ℕ) → count_below p n ≤ n
 unfolding count_below
 count_below-le p zero = omega arith
-count_below-le p (suc n) = elim (p n) as (λ b. count_below p n + cond b 1 0 ≤ suc n) [ true ↦ omega (arith, count_below-le p n) | false ↦ omega (arith, count_below-le p n) ]
+count_below-le p (suc n) = elim (p n) as (λ b. count_below p n + cond b 1 0 ≤ suc n)
+    [ true ↦ omega (arith, count_below-le p n) | false ↦ omega (arith, count_below-le p n) ]
 
 -- a product with a factor above zero is no smaller than the other factor
 mul-ge : (q size : ℕ) → 0 < size → q ≤ q * size
@@ -57,7 +59,8 @@ range_has_value-past size slots q positive past =
     rw none (no_value size)
 
 -- the ranges after the first are those of the slots after it
-pub range_has_value-suc : (size : ℕ) (slots : List (Option ℤ)) (q : ℕ) → range_has_value size slots (suc q) ≡ range_has_value size (drop size slots) q
+pub range_has_value-suc : (size : ℕ) (slots : List (Option ℤ)) (q : ℕ)
+    → range_has_value size slots (suc q) ≡ range_has_value size (drop size slots) q
 unfolding range_has_value
 range_has_value-suc size slots q =
     let same : drop (q * size) (drop size slots) ≡ drop (size + q * size) slots = drop-drop (q * size) size slots in
@@ -154,9 +157,12 @@ page_slots_small (suc (suc (suc (suc zero)))) few = (lit< tt, lit≤ tt)
 page_slots_small (suc (suc (suc (suc (suc k))))) few = absurd (omega arith)
 
 -- one more level
-pub level_pages-suc : (k : ℕ) (slots : List (Option ℤ)) → level_pages (k + 1) slots ≡ level_pages k slots + ranges_with_value (PAGE_SLOTS ^ k * PAGE_SLOTS) slots
+pub level_pages-suc : (k : ℕ) (slots : List (Option ℤ))
+    → level_pages (k + 1) slots ≡ level_pages k slots + ranges_with_value (PAGE_SLOTS ^ k * PAGE_SLOTS) slots
 unfolding level_pages
-level_pages-suc k slots = let one_more : k + 1 ≡ suc k = omega arith in rw one_more (ap (λ size. level_pages k slots + ranges_with_value size slots) (ap (λ j. PAGE_SLOTS ^ j) (sym one_more) ∙ page_slots-suc k))
+level_pages-suc k slots = let one_more : k + 1 ≡ suc k = omega arith in
+    rw one_more (ap (λ size. level_pages k slots + ranges_with_value size slots) (ap (λ j. PAGE_SLOTS ^ j) (sym one_more)
+    ∙ page_slots-suc k))
 
 -- no level has no pages
 pub level_pages-zero : (slots : List (Option ℤ)) → level_pages 0 slots ≡ 0
@@ -164,7 +170,8 @@ unfolding level_pages
 level_pages-zero slots = refl
 
 -- the pages of a series are those of its levels
-pub series_pages_is : (slots : List (Option ℤ)) (k pages : ℕ) → k ≡ page_levels (length slots) → pages ≡ level_pages k slots → pages ≡ series_pages slots
+pub series_pages_is : (slots : List (Option ℤ)) (k pages : ℕ) → k ≡ page_levels (length slots) → pages ≡ level_pages k slots
+    → pages ≡ series_pages slots
 unfolding series_pages
 series_pages_is slots k pages levels is = is ∙ ap (λ j. level_pages j slots) levels
 

@@ -1,7 +1,9 @@
-use Rattle.std.proofs.Common.{◌≡◌, ℕ, zero, suc, ◌+◌, ◌-◌, max, min, Bool, true, false, List, [], ◌∷◌, ◌++◌, length, take, drop, replicate, get_or, Option, None, ℤ, All, refl, ap, ◌∙◌, arith, rules}
+use Rattle.std.proofs.Common.{◌≡◌, ℕ, zero, suc, ◌+◌, ◌-◌, max, min, Bool, true, false, List, [], ◌∷◌, ◌++◌, length, take, drop, replicate}
+use Rattle.std.proofs.Common.{get_or, Option, None, ℤ, All, refl, ap, ◌∙◌, arith, rules}
 use Rattle.std.specs.List.{list_any}
 use Rattle.std.proofs.lemmas.List.Folds.{list_any_at}
-use Rattle.std.proofs.lemmas.List.{same_lists, places, take_all, drop_all, append-nil, length-append, length-replicate, length-take, length-drop, take-replicate, drop-replicate}
+use Rattle.std.proofs.lemmas.List.{same_lists, places, take_all, drop_all, append-nil, length-append, length-replicate, length-take}
+use Rattle.std.proofs.lemmas.List.{length-drop, take-replicate, drop-replicate}
 use Rattle.series_book.specs.Edits.{overwritten, cleared, is_too_large}
 
 -- a front of two lists
@@ -9,7 +11,8 @@ take_append : {X : Type 0} (n : ℕ) (xs ys : List X) → take n (xs ++ ys) ≡ 
 take_append zero [] ys = refl
 take_append (suc n) [] ys = let all : suc n - 0 ≡ suc n = omega arith in rw all refl
 take_append zero (x ∷ xs) ys = let none : 0 - suc (length xs) ≡ 0 = omega arith in rw none refl
-take_append (suc n) (x ∷ xs) ys = let less : suc n - suc (length xs) ≡ n - length xs = omega arith in rw less (ap (λ zs. x ∷ zs) (take_append n xs ys))
+take_append (suc n) (x ∷ xs) ys = let less : suc n - suc (length xs) ≡ n - length xs = omega arith in
+    rw less (ap (λ zs. x ∷ zs) (take_append n xs ys))
 
 -- the rest of two lists
 drop_append : {X : Type 0} (n : ℕ) (xs ys : List X) → drop n (xs ++ ys) ≡ drop n xs ++ drop (n - length xs) ys
@@ -26,13 +29,16 @@ pub overwritten_from_resized : (slots run filled : List (Option ℤ)) (place n :
 unfolding overwritten
 overwritten_from_resized slots run filled place n n_is filled_is =
     let whole : take n slots ≡ slots = take_all n slots (omega arith) in
-    let filled' : filled ≡ slots ++ replicate (n - length slots) None = filled_is ∙ ap (λ xs. xs ++ replicate (n - length slots) None) whole in
+    let filled' : filled ≡ slots ++ replicate (n - length slots) None = filled_is
+    ∙ ap (λ xs. xs ++ replicate (n - length slots) None) whole in
     let front : take place filled ≡ take place slots ++ replicate (place - length slots) None =
-    ap (take place) filled' ∙ take_append place slots _ ∙ ap (λ xs. take place slots ++ xs) (take-replicate (place - length slots) (n - length slots) None (omega arith)) in
+    ap (take place) filled' ∙ take_append place slots _
+    ∙ ap (λ xs. take place slots ++ xs) (take-replicate (place - length slots) (n - length slots) None (omega arith)) in
     let past : n - length slots - (place + length run - length slots) ≡ 0 = omega arith in
     let back : drop (place + length run) filled ≡ drop (place + length run) slots =
     ap (drop (place + length run)) filled' ∙ drop_append (place + length run) slots _
-    ∙ ap (λ xs. drop (place + length run) slots ++ xs) (drop-replicate (place + length run - length slots) (n - length slots) None ∙ ap (λ k. replicate k None) past)
+    ∙ ap (λ xs. drop (place + length run) slots ++ xs) (drop-replicate (place + length run - length slots) (n - length slots) None
+    ∙ ap (λ k. replicate k None) past)
     ∙ append-nil _ in
     rw (front, back) refl
 
@@ -75,7 +81,8 @@ overwritten-end slots run =
     rw (whole, none, rest, append-nil) (ap (λ xs. xs ++ run) (append-nil slots))
 
 -- the length of slots after a run was written
-pub length-overwritten : (slots run : List (Option ℤ)) (place : ℕ) → length (overwritten slots place run) ≡ max (length slots) (place + length run)
+pub length-overwritten : (slots run : List (Option ℤ)) (place : ℕ)
+    → length (overwritten slots place run) ≡ max (length slots) (place + length run)
 unfolding overwritten
 length-overwritten slots run place =
     omega (arith, length-append {A = Option ℤ}, length-take {A = Option ℤ}, length-drop {A = Option ℤ}, length-replicate {A = Option ℤ})

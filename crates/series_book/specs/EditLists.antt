@@ -23,4 +23,5 @@ after_edits total book (edit ∷ edits) = after_edits total (book_behind book (a
 -- and what each of them gives
 abbrev pub edits_give : ℕ → List Series → List Edit → List (Result ℕ Refusal)
 edits_give total book [] = []
-edits_give total book (edit ∷ edits) = slots_behind (apply book total edit) ∷ edits_give total (book_behind book (apply book total edit)) edits
+edits_give total book (edit ∷ edits) = slots_behind (apply book total edit) ∷ edits_give total
+    (book_behind book (apply book total edit)) edits

@@ -1,7 +1,10 @@
-use Rattle.std.specs.Prelude.{◌≡◌, ◌⊎◌, ℕ, ℤ, ◌+◌, ◌-◌, ◌/◌, ◌%◌, ◌<◌, ◌≤◌, min, max, Bool, true, false, not, ◌||◌, ◌==◌, nat_lt, nat_le, int_lt, unsigned_abs, ◌-ℤ◌, if◌then◌else◌, List, [], ◌∷◌, ◌++◌, length, take, drop, replicate, slice_get, slice_set, position, All, Option, None, Some, is_some, IsSome, Result, Ok, Err, ⊤}
+use Rattle.std.specs.Prelude.{◌≡◌, ◌⊎◌, ℕ, ℤ, ◌+◌, ◌-◌, ◌/◌, ◌%◌, ◌<◌, ◌≤◌, min, max, Bool, true, false, not, ◌||◌, ◌==◌, nat_lt, nat_le}
+use Rattle.std.specs.Prelude.{int_lt, unsigned_abs, ◌-ℤ◌, if◌then◌else◌, List, [], ◌∷◌, ◌++◌, length, take, drop, replicate, slice_get}
+use Rattle.std.specs.Prelude.{slice_set, position, All, Option, None, Some, is_some, IsSome, Result, Ok, Err, ⊤}
 use Rattle.std.specs.Str.{bytes_eq}
 use Rattle.std.specs.List.{list_any}
-use Rattle.series_book.specs.declared.limits.TheConstants.{MOST_SLOTS, MOST_SERIES, MOST_VALUES, MOST_CLEARED, GREATEST_START, GREATEST_STEP, GREATEST_SCALE}
+use Rattle.series_book.specs.declared.limits.TheConstants.{MOST_SLOTS, MOST_SERIES, MOST_VALUES, MOST_CLEARED, GREATEST_START}
+use Rattle.series_book.specs.declared.limits.TheConstants.{GREATEST_STEP, GREATEST_SCALE}
 use Rattle.whole_number.specs.declared.limits.TheConstants.{GREATEST_VALUE}
 use Rattle.whole_number.specs.SlotTimes.{ends_in_time}
 use Rattle.series_book.specs.declared.one_series.Series.{Series}
@@ -10,7 +13,8 @@ use Rattle.series_book.specs.declared.edits.Edit.TheVariants.{Create, Append, Se
 use Rattle.series_book.specs.declared.errors.BookError.{BookError}
 use Rattle.series_book.specs.declared.errors.BookError.TheVariants.{Refused, NoMemory}
 use Rattle.series_book.specs.declared.refusals.Refusal.{Refusal}
-use Rattle.series_book.specs.declared.refusals.Refusal.TheVariants.{UnknownSeries, SeriesExists, TooManySeries, OffGrid, BeforeStart, ValueTooLarge, RangeTooLong, SeriesFull, Full}
+use Rattle.series_book.specs.declared.refusals.Refusal.TheVariants.{UnknownSeries, SeriesExists, TooManySeries, OffGrid, BeforeStart}
+use Rattle.series_book.specs.declared.refusals.Refusal.TheVariants.{ValueTooLarge, RangeTooLong, SeriesFull, Full}
 use Rattle.series_book.specs.Pages.{pages_of}
 
 -- what a book can be asked: start, step and scale are in range, an append or a set has a value, and

@@ -1,9 +1,15 @@
 use Rattle.std.specs.Prelude.{ℕ}
-use Rattle.series_book.specs.declared.refusal_numbers.TheConstants.{LINE_TOO_LONG, BAD_LINE, BAD_FILTER, UNKNOWN_SESSION, SESSION_OPEN, TOO_MANY_SESSIONS, BAD_CACHE}
-use Rattle.series_book.specs.declared.refusal_numbers.TheConstants.{UNKNOWN_SERIES, SERIES_EXISTS, TOO_MANY_SERIES, OFF_GRID, BEFORE_START, VALUE_TOO_LARGE, RANGE_TOO_LONG}
-use Rattle.series_book.specs.declared.refusal_numbers.TheConstants.{SERIES_FULL, NO_VIEW, BAD_WINDOW, BAD_CANVAS, BAD_RANGE, VIEW_TOO_LARGE, FULL}
+use Rattle.series_book.specs.declared.refusal_numbers.TheConstants.{LINE_TOO_LONG, BAD_LINE, BAD_FILTER, UNKNOWN_SESSION, SESSION_OPEN}
+use Rattle.series_book.specs.declared.refusal_numbers.TheConstants.{TOO_MANY_SESSIONS, BAD_CACHE}
+use Rattle.series_book.specs.declared.refusal_numbers.TheConstants.{UNKNOWN_SERIES, SERIES_EXISTS, TOO_MANY_SERIES, OFF_GRID, BEFORE_START}
+use Rattle.series_book.specs.declared.refusal_numbers.TheConstants.{VALUE_TOO_LARGE, RANGE_TOO_LONG}
+use Rattle.series_book.specs.declared.refusal_numbers.TheConstants.{SERIES_FULL, NO_VIEW, BAD_WINDOW, BAD_CANVAS, BAD_RANGE, VIEW_TOO_LARGE}
+use Rattle.series_book.specs.declared.refusal_numbers.TheConstants.{FULL}
 use Rattle.series_book.specs.declared.refusals.Refusal.{Refusal}
-use Rattle.series_book.specs.declared.refusals.Refusal.TheVariants.{LineTooLong, BadLine, BadFilter, UnknownSession, SessionOpen, TooManySessions, BadCache, UnknownSeries, SeriesExists, TooManySeries, OffGrid, BeforeStart, ValueTooLarge, RangeTooLong, SeriesFull, NoView, BadWindow, BadCanvas, BadRange, ViewTooLarge, Full}
+use Rattle.series_book.specs.declared.refusals.Refusal.TheVariants.{LineTooLong, BadLine, BadFilter, UnknownSession, SessionOpen}
+use Rattle.series_book.specs.declared.refusals.Refusal.TheVariants.{TooManySessions, BadCache, UnknownSeries, SeriesExists, TooManySeries}
+use Rattle.series_book.specs.declared.refusals.Refusal.TheVariants.{OffGrid, BeforeStart, ValueTooLarge, RangeTooLong, SeriesFull, NoView}
+use Rattle.series_book.specs.declared.refusals.Refusal.TheVariants.{BadWindow, BadCanvas, BadRange, ViewTooLarge, Full}
 
 -- the number of a refusal
 abbrev pub number_of : Refusal → ℕ

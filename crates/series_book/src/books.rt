@@ -1,4 +1,5 @@
-ghost use Rattle.std.specs.Prelude.{◌≡◌, ℤ, ◌+◌, ◌-◌, ◌<◌, ◌≤◌, ◌↔◌, [], ◌∷◌, ◌++◌, length, max, IsTrue, IfSome, IfOk, OnOk, OnErr, Some, None, slice_get, take, drop, All, false, List, Option, IsSomeAnd};
+ghost use Rattle.std.specs.Prelude.{◌≡◌, ℤ, ◌+◌, ◌-◌, ◌<◌, ◌≤◌, ◌↔◌, [], ◌∷◌, ◌++◌, length, max, IsTrue, IfSome, IfOk, OnOk, OnErr, Some};
+ghost use Rattle.std.specs.Prelude.{None, slice_get, take, drop, All, false, List, Option, IsSomeAnd};
 ghost use Rattle.series_book.specs.Edits.{id_of, with_slots, overwritten, is_too_large};
 ghost use Rattle.series_book.specs.Books.{IsSeries, IsBook};
 ghost use Rattle.whole_number.specs.SlotTimes.{EndsInTime};
@@ -102,10 +103,13 @@ impl Book {
     ) -> Result<Vec<Option<i64>>, AllocError>
         requires there { id < length self.old }
         requires room { place + length run.now ≤ MOST_SLOTS }
-        requires last { IfSome (slice_get self.old id) (λ series. EndsInTime series.start series.step (max (length series.slots) (place + length run.now))) }
+        requires last { IfSome (slice_get self.old id)
+            (λ series. EndsInTime series.start series.step (max (length series.slots) (place + length run.now))) }
         requires in_range { All (λ value. is_too_large value ≡ false) run.now }
-        ensures ok { OnOk result (IsSomeAnd (slice_get self.old id) (λ series. self.new ≡ with_slots self.old id series (overwritten series.slots place run.now))) }
-        ensures displaced { IfOk result (λ old. IsSomeAnd (slice_get self.old id) (λ series. old.items ≡ take (length run.now) (drop place series.slots))) }
+        ensures ok { OnOk result (IsSomeAnd (slice_get self.old id)
+            (λ series. self.new ≡ with_slots self.old id series (overwritten series.slots place run.now))) }
+        ensures displaced { IfOk result (λ old. IsSomeAnd (slice_get self.old id)
+            (λ series. old.items ≡ take (length run.now) (drop place series.slots))) }
         ensures err { OnErr result (self.new ≡ self.old) }
     {
         let series = &mut self.series[id];

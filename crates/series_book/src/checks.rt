@@ -5,7 +5,8 @@ ghost use Rattle.std.specs.List.{list_any};
 ghost use Rattle.series_book.specs.declared.limits.TheConstants.{MOST_SLOTS, MOST_CLEARED, MOST_VALUES};
 ghost use Rattle.whole_number.specs.SlotTimes.{EndsInTime};
 ghost use Rattle.series_book.specs.declared.one_series.Series.{Series};
-ghost use Rattle.series_book.specs.Edits.{is_too_large, place_of, distance, overwritten, cleared, appended, set_at, cleared_at, IsOnGrid, RefusesTime};
+ghost use Rattle.series_book.specs.Edits.{is_too_large, place_of, distance, overwritten, cleared, appended, set_at, cleared_at, IsOnGrid};
+ghost use Rattle.series_book.specs.Edits.{RefusesTime};
 ghost use Rattle.series_book.specs.Axes.{IsAxisOf, IsRefusalOf};
 
 use crate::axis::Axis;
@@ -52,7 +53,8 @@ pub fn set_refusal(axis: Axis, time: i128, values: &Values) -> Option<Refusal>
     ensures in_range { IfNone result (list_any is_too_large values.now ≡ false) }
     ensures few { IfNone result (length values.now ≤ MOST_VALUES) }
     ensures room { (series : Series) → IsAxisOf series axis → IfNone result (place_of series time + length values.now ≤ MOST_SLOTS) }
-    ensures last { (series : Series) → IsAxisOf series axis → IfNone result (EndsInTime axis.start axis.step (max axis.slots (place_of series time + length values.now))) }
+    ensures last { (series : Series) → IsAxisOf series axis
+        → IfNone result (EndsInTime axis.start axis.step (max axis.slots (place_of series time + length values.now))) }
 {
     if let Some(refusal) = time_refusal(axis, time) {
         return Some(refusal);

@@ -1,4 +1,5 @@
-ghost use Rattle.std.specs.Prelude.{◌≡◌, ◌+◌, ◌<◌, ◌≤◌, [], length, max, take, drop, slice_get, All, false, unsigned_abs, IfOk, IfErr, IfSome, IsSomeAnd, OnOk, OnErr, Ok};
+ghost use Rattle.std.specs.Prelude.{◌≡◌, ◌+◌, ◌<◌, ◌≤◌, [], length, max, take, drop, slice_get, All, false, unsigned_abs, IfOk, IfErr};
+ghost use Rattle.std.specs.Prelude.{IfSome, IsSomeAnd, OnOk, OnErr, Ok};
 ghost use Rattle.whole_number.specs.SlotTimes.{EndsInTime};
 ghost use Rattle.series_book.specs.declared.limits.TheConstants.{FIXED_PAGES, MOST_SLOTS, GREATEST_START, GREATEST_STEP, GREATEST_SCALE};
 ghost use Rattle.series_book.specs.declared.edits.Edit.TheVariants.{Create, Append, Set, Clear};
@@ -74,7 +75,8 @@ impl ListBook {
     /// and where memory is wanting, the book is as it was.
     pub fn apply(&mut self, edit: &Edit) -> Result<Outcome, BookError>
         requires { IsEdit edit.now }
-        ensures ok { IfOk result (λ outcome. apply self.old.book self.old.total edit.now ≡ Ok (record { book = self.new.book; slots = outcome.slots })) }
+        ensures ok { IfOk result (λ outcome. apply self.old.book self.old.total edit.now ≡ Ok
+            (record { book = self.new.book; slots = outcome.slots })) }
         ensures refused { IfErr result (λ error. RefusesEdit (apply self.old.book self.old.total edit.now) error) }
         ensures err { OnErr result (self.new ≡ self.old) }
         ensures total { self.new.total ≡ self.old.total }
@@ -103,8 +105,10 @@ impl ListBook {
         requires step_above_zero { 1 ≤ step }
         requires step_in_range { step ≤ GREATEST_STEP }
         requires scale_in_range { scale ≤ GREATEST_SCALE }
-        ensures ok { IfOk result (λ outcome. apply self.old.book self.old.total (Create name.now start step scale) ≡ Ok (record { book = self.new.book; slots = outcome.slots })) }
-        ensures refused { IfErr result (λ error. RefusesEdit (apply self.old.book self.old.total (Create name.now start step scale)) error) }
+        ensures ok { IfOk result (λ outcome. apply self.old.book self.old.total (Create name.now start step scale) ≡ Ok
+            (record { book = self.new.book; slots = outcome.slots })) }
+        ensures refused { IfErr result (λ error. RefusesEdit
+            (apply self.old.book self.old.total (Create name.now start step scale)) error) }
         ensures err { OnErr result (self.new ≡ self.old) }
         ensures total { self.new.total ≡ self.old.total }
     {
@@ -121,7 +125,8 @@ impl ListBook {
     }
 
     fn append(&mut self, name: &Name, values: &Values) -> Result<Outcome, BookError>
-        ensures ok { IfOk result (λ outcome. apply self.old.book self.old.total (Append name.now values.now) ≡ Ok (record { book = self.new.book; slots = outcome.slots })) }
+        ensures ok { IfOk result (λ outcome. apply self.old.book self.old.total (Append name.now values.now) ≡ Ok
+            (record { book = self.new.book; slots = outcome.slots })) }
         ensures refused { IfErr result (λ error. RefusesEdit (apply self.old.book self.old.total (Append name.now values.now)) error) }
         ensures err { OnErr result (self.new ≡ self.old) }
         ensures total { self.new.total ≡ self.old.total }
@@ -139,7 +144,8 @@ impl ListBook {
     }
 
     fn set(&mut self, name: &Name, time: i128, values: &Values) -> Result<Outcome, BookError>
-        ensures ok { IfOk result (λ outcome. apply self.old.book self.old.total (Set name.now time values.now) ≡ Ok (record { book = self.new.book; slots = outcome.slots })) }
+        ensures ok { IfOk result (λ outcome. apply self.old.book self.old.total (Set name.now time values.now) ≡ Ok
+            (record { book = self.new.book; slots = outcome.slots })) }
         ensures refused { IfErr result (λ error. RefusesEdit (apply self.old.book self.old.total (Set name.now time values.now)) error) }
         ensures err { OnErr result (self.new ≡ self.old) }
         ensures total { self.new.total ≡ self.old.total }
@@ -157,7 +163,8 @@ impl ListBook {
     }
 
     fn clear(&mut self, name: &Name, time: i128, count: u64) -> Result<Outcome, BookError>
-        ensures ok { IfOk result (λ outcome. apply self.old.book self.old.total (Clear name.now time count) ≡ Ok (record { book = self.new.book; slots = outcome.slots })) }
+        ensures ok { IfOk result (λ outcome. apply self.old.book self.old.total (Clear name.now time count) ≡ Ok
+            (record { book = self.new.book; slots = outcome.slots })) }
         ensures refused { IfErr result (λ error. RefusesEdit (apply self.old.book self.old.total (Clear name.now time count)) error) }
         ensures err { OnErr result (self.new ≡ self.old) }
         ensures total { self.new.total ≡ self.old.total }
@@ -189,10 +196,12 @@ impl ListBook {
     ) -> Result<Outcome, BookError>
         requires there { id < length self.old.book }
         requires room { place + length run.now ≤ MOST_SLOTS }
-        requires last { IfSome (slice_get self.old.book id) (λ series. EndsInTime series.start series.step (max (length series.slots) (place + length run.now))) }
+        requires last { IfSome (slice_get self.old.book id)
+            (λ series. EndsInTime series.start series.step (max (length series.slots) (place + length run.now))) }
         requires in_range { All (λ value. is_too_large value ≡ false) run.now }
         ensures ok { IfOk result (λ outcome. IfSome (slice_get self.old.book id)
-            (λ series. within self.old.total self.old.book id series (Ok (overwritten series.slots place run.now)) ≡ Ok (record { book = self.new.book; slots = outcome.slots }))) }
+            (λ series. within self.old.total self.old.book id series (Ok (overwritten series.slots place run.now)) ≡ Ok
+            (record { book = self.new.book; slots = outcome.slots }))) }
         ensures refused { IfErr result (λ error. IfSome (slice_get self.old.book id)
             (λ series. RefusesEdit (within self.old.total self.old.book id series (Ok (overwritten series.slots place run.now))) error)) }
         ensures err { OnErr result (self.new ≡ self.old) }
@@ -224,10 +233,13 @@ impl ListBook {
     ) -> Result<Vec<Option<i64>>, BookError>
         requires there { id < length self.old.book }
         requires room { place + length run.now ≤ MOST_SLOTS }
-        requires last { IfSome (slice_get self.old.book id) (λ series. EndsInTime series.start series.step (max (length series.slots) (place + length run.now))) }
+        requires last { IfSome (slice_get self.old.book id)
+            (λ series. EndsInTime series.start series.step (max (length series.slots) (place + length run.now))) }
         requires in_range { All (λ value. is_too_large value ≡ false) run.now }
-        ensures ok { OnOk result (IsSomeAnd (slice_get self.old.book id) (λ series. self.new.book ≡ with_slots self.old.book id series (overwritten series.slots place run.now))) }
-        ensures displaced { IfOk result (λ old. IsSomeAnd (slice_get self.old.book id) (λ series. old.items ≡ take (length run.now) (drop place series.slots))) }
+        ensures ok { OnOk result (IsSomeAnd (slice_get self.old.book id)
+            (λ series. self.new.book ≡ with_slots self.old.book id series (overwritten series.slots place run.now))) }
+        ensures displaced { IfOk result (λ old. IsSomeAnd (slice_get self.old.book id)
+            (λ series. old.items ≡ take (length run.now) (drop place series.slots))) }
         ensures refused { IfErr result (λ error. error ≡ BookError.NoMemory) }
         ensures err { OnErr result (self.new ≡ self.old) }
         ensures total { self.new.total ≡ self.old.total }

@@ -59,8 +59,10 @@ impl Slots {
     pub(crate) fn take_back(&mut self, place: usize, displaced: &[Option<i64>], before: usize)
         requires shorter { before ≤ length self.old }
         requires fits { length displaced.now ≤ before - place }
-        ensures after { self.new ≡ take (min place before) (take before self.old) ++ displaced.now ++ drop (min place before + length displaced.now) (take before self.old) }
-        ensures undone { (old run : List (Option ℤ)) → self.old ≡ overwritten old place run → displaced.now ≡ take (length run) (drop place old) → before ≡ length old → self.new ≡ old }
+        ensures after { self.new ≡ take (min place before) (take before self.old) ++ displaced.now ++ drop
+            (min place before + length displaced.now) (take before self.old) }
+        ensures undone { (old run : List (Option ℤ)) → self.old ≡ overwritten old place run
+            → displaced.now ≡ take (length run) (drop place old) → before ≡ length old → self.new ≡ old }
     {
         self.items.truncate(before);
         let from = place.min(before);

@@ -1,5 +1,6 @@
 -- A record is put into a transaction.
-use Rattle.std.proofs.Common.{◌≡◌, ℕ, zero, suc, ◌<◌, ◌≤◌, ◌⊎◌, ◌&&◌, if◌then◌else◌, ◌==◌, cond, List, length, Some, IsTrue, unwrap_or, refl, sym, ap, subst, arith, ◌∙◌, inl, inr}
+use Rattle.std.proofs.Common.{◌≡◌, ℕ, zero, suc, ◌<◌, ◌≤◌, ◌⊎◌, ◌&&◌, if◌then◌else◌, ◌==◌, cond, List, length, Some, IsTrue, unwrap_or}
+use Rattle.std.proofs.Common.{refl, sym, ap, subst, arith, ◌∙◌, inl, inr}
 use Rattle.std.proofs.lemmas.Bool.{and_parts, eq-eqb, leb-true}
 use Rattle.std.specs.List.{list_all}
 use Rattle.std.specs.Prelude.{nat_le}
@@ -22,8 +23,10 @@ name_short name named =
     leb-true (length name) 31 sizes.1
 
 -- the page that was put, where what it holds follows from what it held
-pub put_keeps : (old new : Txn) (image : Image) (id page count count' fresh : ℕ) (bytes bytes' : List ℕ) (e e' : Entry) → page ≡ page_of id → bytes ≡ left_by old image page
-    → held_page new page ≡ (if page == page then Some bytes' else held_page old page) → e ≡ e' → (IsEntry fresh e → KeepsLayout count fresh bytes → KeepsLayout count' fresh bytes') → IsEntry fresh e'
+pub put_keeps : (old new : Txn) (image : Image) (id page count count' fresh : ℕ) (bytes bytes' : List ℕ) (e e' : Entry) → page ≡ page_of id
+    → bytes ≡ left_by old image page
+    → held_page new page ≡ (if page == page then Some bytes' else held_page old page) → e ≡ e'
+    → (IsEntry fresh e → KeepsLayout count fresh bytes → KeepsLayout count' fresh bytes') → IsEntry fresh e'
     → KeepsLayout count fresh (left_by old image (page_of id)) → KeepsLayout count' fresh (left_by new image (page_of id))
 put_keeps old new image id page count count' fresh bytes bytes' e e' at read put same keeps is kept =
     let held : held_page new page ≡ Some bytes' = put ∙ ap (λ b. cond b (Some bytes') (held_page old page)) (eq-eqb page page refl) in
@@ -38,7 +41,8 @@ zero_or_more zero = inl refl
 zero_or_more (suc n) = inr (omega arith)
 
 -- a page of the catalog is none of the freed ones
-pub none_freed : (count : ℕ) (image : Image) (s : Superblock) (taken freed : List ℕ) (p : ℕ) → p ≤ 16 → Stands count image s taken freed → times p freed ≡ 0
+pub none_freed : (count : ℕ) (image : Image) (s : Superblock) (taken freed : List ℕ) (p : ℕ) → p ≤ 16 → Stands count image s taken freed
+    → times p freed ≡ 0
 none_freed count image s taken freed p low stands =
     let is = apart count image s taken freed p stands in
     elim (zero_or_more (times p freed)) [

@@ -33,10 +33,12 @@ reads_none told at = record {
 }
 
 -- one more page
-pub reads_one : (most more : ℕ) (told told' told'' : Type 0) (old mid new : View) → most + 1 ≡ more → ReadsMost most told told' old mid → Reads told' told'' mid new → ReadsMost more told told'' old new
+pub reads_one : (most more : ℕ) (told told' told'' : Type 0) (old mid new : View) → most + 1 ≡ more → ReadsMost most told told' old mid
+    → Reads told' told'' mid new → ReadsMost more told told'' old new
 reads_one most more told told' told'' old mid new is first second = record {
   time = time_then old mid new (Now old) first.time
-      (passes_weaker mid new (Now mid) (Now old) (Quiet mid) (Quiet mid) (now_back old mid (Quiet old) first.time) (λ count quiet. quiet) second.time);
+      (passes_weaker mid new (Now mid) (Now old) (Quiet mid) (Quiet mid) (now_back old mid (Quiet old) first.time)
+      (λ count quiet. quiet) second.time);
   told = λ t. second.told (first.told t);
   was_told = λ t. first.was_told (second.was_told t);
   image = λ t. second.image (first.told t) ∙ first.image t;
@@ -49,7 +51,8 @@ reads_one most more told told' told'' old mid new is first second = record {
   writes = second.writes ∙ first.writes;
 }
 
-pub reads_more : (most more : ℕ) (told told' : Type 0) (old new : View) → most ≤ more → ReadsMost most told told' old new → ReadsMost more told told' old new
+pub reads_more : (most more : ℕ) (told told' : Type 0) (old new : View) → most ≤ more → ReadsMost most told told' old new
+    → ReadsMost more told told' old new
 reads_more most more told told' old new less reads = record {
   time = reads.time;
   told = reads.told;
@@ -75,7 +78,9 @@ risen_on old mid new quiet (inl risen) = inl (omega (arith, quiet, risen))
 risen_on old mid new quiet (inr last) = inr (omega (arith, quiet, last.0), omega (arith, quiet, last.1))
 
 -- an error at a page that is read after others
-pub cause_on : (most : ℕ) (told told' : Type 0) (old mid new : View) (s s' : Superblock) (e : CatalogError) → ReadsMost most told told' old mid → mid.faults ≡ old.faults → s' ≡ s → IsCatalogCause e told' s' mid new → IsCatalogCause e told s old new
+pub cause_on : (most : ℕ) (told told' : Type 0) (old mid new : View) (s s' : Superblock) (e : CatalogError)
+    → ReadsMost most told told' old mid → mid.faults ≡ old.faults → s' ≡ s → IsCatalogCause e told' s' mid new
+    → IsCatalogCause e told s old new
 cause_on most told told' old mid new s s' DiskFault reads quiet same cause = risen_on old.faults mid.faults new.faults quiet cause
 cause_on most told told' old mid new s s' (Damaged page) reads quiet same cause = λ t.
     let P : Superblock → Type 0 = λ one. IsBadCatalog mid.image one page in
@@ -84,18 +89,21 @@ cause_on most told told' old mid new s s' (Damaged page) reads quiet same cause 
 cause_on most told told' old mid new s s' NoMemory reads quiet same cause = tt
 
 -- what was read before a page is of the pages as they are now
-pub told_now : (told told' : Type 0) (old new : View) (most : ℕ) (series : List StoredSeries) → ReadsMost most told told' old new → (told → AreAsTold old.image series) → told' → AreAsTold new.image series
+pub told_now : (told told' : Type 0) (old new : View) (most : ℕ) (series : List StoredSeries) → ReadsMost most told told' old new
+    → (told → AreAsTold old.image series) → told' → AreAsTold new.image series
 told_now told told' old new most series reads were t =
     let P : Image → Type 0 = λ image. AreAsTold image series in
     subst P (sym (reads.image (reads.was_told t))) (were (reads.was_told t))
 
 -- and of the pages as they were
-pub told_then : (told told' : Type 0) (old new : View) (most : ℕ) (series : List StoredSeries) → ReadsMost most told told' old new → (told' → AreAsTold new.image series) → told → AreAsTold old.image series
+pub told_then : (told told' : Type 0) (old new : View) (most : ℕ) (series : List StoredSeries) → ReadsMost most told told' old new
+    → (told' → AreAsTold new.image series) → told → AreAsTold old.image series
 told_then told told' old new most series reads are t =
     let P : Image → Type 0 = λ image. AreAsTold image series in
     subst P (reads.image t) (are (reads.told t))
 
-pub read_for : (pages pages' : ℕ) (s s' : Superblock) (series : List StoredSeries) → pages' ≡ pages → s' ≡ s → AreRead pages s.series s.fresh series → AreRead pages' s'.series s'.fresh series
+pub read_for : (pages pages' : ℕ) (s s' : Superblock) (series : List StoredSeries) → pages' ≡ pages → s' ≡ s
+    → AreRead pages s.series s.fresh series → AreRead pages' s'.series s'.fresh series
 read_for pages pages' s s' series as_many same read =
     let P : Superblock → Type 0 = λ one. AreRead pages one.series one.fresh series in
     let Q : ℕ → Type 0 = λ n. AreRead n s'.series s'.fresh series in
@@ -145,7 +153,8 @@ page_cause_so NoMemory page P Q more cause = tt
 abbrev pub IsBadPage : ℕ → ℕ → ℕ → List ℕ → Image → Type 0
 IsBadPage page count fresh bytes image = (KeepsLayout (records_of page count) fresh bytes → ⊥) ⊎ HasRepeatedName image count page
 
-pub page_cause : (told : Type 0) (s : Superblock) (old new : View) (page count fresh : ℕ) (bytes : List ℕ) (series : List StoredSeries) (e : CatalogError) → 1 ≤ page → page < 17 → count ≡ s.series → fresh ≡ s.fresh
+pub page_cause : (told : Type 0) (s : Superblock) (old new : View) (page count fresh : ℕ) (bytes : List ℕ) (series : List StoredSeries)
+    (e : CatalogError) → 1 ≤ page → page < 17 → count ≡ s.series → fresh ≡ s.fresh
     → (told → bytes ≡ old.image page) → (told → AreAsTold old.image series)
     → IsPageCause e page ((image : Image) → image page ≡ bytes → AreAsTold image series → IsBadPage page count fresh bytes image)
     → IsCatalogCause e told s old new

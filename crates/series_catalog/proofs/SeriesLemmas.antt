@@ -1,5 +1,6 @@
 -- A series more behind those of a catalog.
-use Rattle.std.proofs.Common.{◌≡◌, ◌≢◌, ℕ, zero, suc, ◌+◌, ◌-◌, ◌*◌, ◌<◌, ◌≤◌, ◌⊎◌, min, Bool, true, false, cond, ltb, List, [], ◌∷◌, ◌++◌, length, map, get_or, Option, Some, None, AllPairs, refl, sym, ap, ◌∙◌, subst, arith, inl, inr}
+use Rattle.std.proofs.Common.{◌≡◌, ◌≢◌, ℕ, zero, suc, ◌+◌, ◌-◌, ◌*◌, ◌<◌, ◌≤◌, ◌⊎◌, min, Bool, true, false, cond, ltb, List, [], ◌∷◌, ◌++◌}
+use Rattle.std.proofs.Common.{length, map, get_or, Option, Some, None, AllPairs, refl, sym, ap, ◌∙◌, subst, arith, inl, inr}
 use Rattle.std.specs.List.{position_or_len, position, slice_get}
 use Rattle.std.specs.Str.{bytes_eq}
 use Rattle.std.proofs.lemmas.Bool.Decides.{nat_tests}
@@ -30,7 +31,8 @@ none_named name series none k d within same =
     cc
 
 -- names stay distinct with a new one behind them
-pub names_more : (series : List StoredSeries) (one : StoredSeries) → AllPairs (λ a b. a ≢ b) (map (λ (s : StoredSeries). s.name) series) → place_of one.name series ≡ None
+pub names_more : (series : List StoredSeries) (one : StoredSeries) → AllPairs (λ a b. a ≢ b) (map (λ (s : StoredSeries). s.name) series)
+    → place_of one.name series ≡ None
     → AllPairs (λ a b. a ≢ b) (map (λ (s : StoredSeries). s.name) (series ++ one ∷ []))
 names_more series one distinct new =
     let name : StoredSeries → List ℕ = λ s. s.name in
@@ -52,7 +54,8 @@ pushed (s ∷ series) one x (suc id) is = elim (pushed series one x id is) [
   | inr last ↦ inr (ap suc last.0, last.1)
 ]
 
-pub fit_more : (fresh : ℕ) (series : List StoredSeries) (one : StoredSeries) → AreFit fresh series → IsEntry fresh (entry_of one) → AreFit fresh (series ++ one ∷ [])
+pub fit_more : (fresh : ℕ) (series : List StoredSeries) (one : StoredSeries) → AreFit fresh series → IsEntry fresh (entry_of one)
+    → AreFit fresh (series ++ one ∷ [])
 fit_more fresh series one fit is id x there = elim (pushed series one x id there) [
   | inl before ↦ fit id x before
   | inr last ↦
@@ -60,7 +63,8 @@ fit_more fresh series one fit is id x there = elim (pushed series one x id there
       subst P (sym last.1) is
 ]
 
-pub told_more : (image : Image) (series : List StoredSeries) (one : StoredSeries) → AreAsTold image series → entry image (length series) ≡ entry_of one → AreAsTold image (series ++ one ∷ [])
+pub told_more : (image : Image) (series : List StoredSeries) (one : StoredSeries) → AreAsTold image series
+    → entry image (length series) ≡ entry_of one → AreAsTold image (series ++ one ∷ [])
 told_more image series one told is id x there = elim (pushed series one x id there) [
   | inl before ↦ told id x before
   | inr last ↦ ap (λ n. entry image n) last.0 ∙ is ∙ ap (λ (s : StoredSeries). entry_of s) (sym last.1)
@@ -96,7 +100,8 @@ there_is name series some =
     ]
 
 -- a series of a page whose name stood there before
-pub repeated : (image : Image) (series : List StoredSeries) (one : StoredSeries) (count page : ℕ) → place_of one.name series ≢ None → AreAsTold image series → entry image (length series) ≡ entry_of one
+pub repeated : (image : Image) (series : List StoredSeries) (one : StoredSeries) (count page : ℕ) → place_of one.name series ≢ None
+    → AreAsTold image series → entry image (length series) ≡ entry_of one
     → page_of (length series) ≡ page → length series < count → HasRepeatedName image count page
 repeated image series one count page some told is in_page within =
     let there = there_is one.name series some in
@@ -115,7 +120,8 @@ pub record IsPlace (page count len number : ℕ) : Type 0 where
   pub number_is : number_of (len + number) ≡ number
   pub within : len + number < count
 
-pub place_is : (page count len number : ℕ) → 1 ≤ page → len ≡ min (32 * (page - 1)) count → number < records_of page count → IsPlace page count len number
+pub place_is : (page count len number : ℕ) → 1 ≤ page → len ≡ min (32 * (page - 1)) count → number < records_of page count
+    → IsPlace page count len number
 unfolding page_of number_of records_of
 place_is page count len number low is below =
     let at : len ≡ 32 * (page - 1) = omega arith in
@@ -126,9 +132,11 @@ unfolding records_of
 len_more page count len low is = omega arith
 
 -- the record of the series that comes next
-pub next_entry : (image : Image) (bytes : List ℕ) (page count len number : ℕ) (e : Entry) → image page ≡ bytes → IsPlace page count len number → entry_at bytes number ≡ e → entry image (len + number) ≡ e
+pub next_entry : (image : Image) (bytes : List ℕ) (page count len number : ℕ) (e : Entry) → image page ≡ bytes
+    → IsPlace page count len number → entry_at bytes number ≡ e → entry image (len + number) ≡ e
 next_entry image bytes page count len number e same place is =
-    ap (λ p. entry_at (image p) (number_of (len + number))) place.page_is ∙ ap (λ b. entry_at b (number_of (len + number))) same ∙ ap (λ n. entry_at bytes n) place.number_is ∙ is
+    ap (λ p. entry_at (image p) (number_of (len + number))) place.page_is ∙ ap (λ b. entry_at b (number_of (len + number))) same
+    ∙ ap (λ n. entry_at bytes n) place.number_is ∙ is
 
 -- the first so many series of a page of these bytes stand behind the old ones
 pub record IsReadTo (bytes : List ℕ) (page fresh number : ℕ) (old series : List StoredSeries) : Type 0 where
@@ -143,8 +151,10 @@ pub record IsNext (bytes : List ℕ) (page count fresh number : ℕ) (old : List
   pub says : entry_at bytes number ≡ entry_of one
   pub fit : IsEntry fresh (entry_of one)
 
-pub next_is : (bytes bytes' : List ℕ) (page count fresh fresh' number : ℕ) (old : List StoredSeries) (one : StoredSeries) (r : Entry) → 1 ≤ page → length old ≡ min (32 * (page - 1)) count → number < records_of page count
-    → bytes' ≡ bytes → fresh' ≡ fresh → r ≡ entry_at bytes' number → IsEntry fresh' r → entry_of one ≡ r → IsNext bytes page count fresh number old one
+pub next_is : (bytes bytes' : List ℕ) (page count fresh fresh' number : ℕ) (old : List StoredSeries) (one : StoredSeries) (r : Entry)
+    → 1 ≤ page → length old ≡ min (32 * (page - 1)) count → number < records_of page count
+    → bytes' ≡ bytes → fresh' ≡ fresh → r ≡ entry_at bytes' number → IsEntry fresh' r → entry_of one ≡ r
+    → IsNext bytes page count fresh number old one
 next_is bytes bytes' page count fresh fresh' number old one r low len below same same' is fits says =
     let P : ℕ → Type 0 = λ n. IsEntry n r in
     let Q : Entry → Type 0 = λ e. IsEntry fresh e in
@@ -154,12 +164,14 @@ next_is bytes bytes' page count fresh fresh' number old one r low len below same
       fit = subst Q (sym says) (subst P same' fits);
     }
 
-next_told : (bytes : List ℕ) (page count fresh number : ℕ) (old series : List StoredSeries) (one : StoredSeries) (image : Image) → IsNext bytes page count fresh number old one → length series ≡ length old + number → image page ≡ bytes
+next_told : (bytes : List ℕ) (page count fresh number : ℕ) (old series : List StoredSeries) (one : StoredSeries) (image : Image)
+    → IsNext bytes page count fresh number old one → length series ≡ length old + number → image page ≡ bytes
     → entry image (length series) ≡ entry_of one
 next_told bytes page count fresh number old series one image next len same =
     ap (λ n. entry image n) len ∙ next_entry image bytes page count (length old) number (entry_of one) same next.place next.says
 
-pub read_more : (bytes : List ℕ) (page count fresh number : ℕ) (old series series' : List StoredSeries) (one : StoredSeries) → IsNext bytes page count fresh number old one → series' ≡ series ++ one ∷ [] → place_of one.name series ≡ None
+pub read_more : (bytes : List ℕ) (page count fresh number : ℕ) (old series series' : List StoredSeries) (one : StoredSeries)
+    → IsNext bytes page count fresh number old one → series' ≡ series ++ one ∷ [] → place_of one.name series ≡ None
     → IsReadTo bytes page fresh number old series → IsReadTo bytes page fresh (number + 1) old series'
 read_more bytes page count fresh number old series series' one next is new read =
     let P : List StoredSeries → Type 0 = λ l. IsReadTo bytes page fresh (number + 1) old l in
@@ -167,20 +179,30 @@ read_more bytes page count fresh number old series series' one next is new read 
       len = omega (arith, read.len, length_push series one);
       fit = fit_more fresh series one read.fit next.fit;
       distinct = names_more series one read.distinct new;
-      told = λ image same were. told_more image series one (read.told image same were) (next_told bytes page count fresh number old series one image next read.len same);
+      told = λ image same were. told_more image series one (read.told image same were)
+          (next_told bytes page count fresh number old series one image next read.len same);
     })
 
-pub bad_more : (bytes : List ℕ) (page count fresh number : ℕ) (old series : List StoredSeries) (one : StoredSeries) (image : Image) → IsNext bytes page count fresh number old one → IsReadTo bytes page fresh number old series
+pub bad_more : (bytes : List ℕ) (page count fresh number : ℕ) (old series : List StoredSeries) (one : StoredSeries) (image : Image)
+    → IsNext bytes page count fresh number old one → IsReadTo bytes page fresh number old series
     → place_of one.name series ≢ None → image page ≡ bytes → AreAsTold image old → HasRepeatedName image count page
 bad_more bytes page count fresh number old series one image next read some same were =
     let at : length series ≡ length old + number = read.len in
-    repeated image series one count page some (read.told image same were) (next_told bytes page count fresh number old series one image next read.len same)
+    repeated image series one count page some (read.told image same were)
+    (next_told bytes page count fresh number old series one image next read.len same)
     (ap (λ n. page_of n) at ∙ next.place.page_is) (omega (arith, at, next.place.within))
 
-pub read_none : (bytes : List ℕ) (page count fresh : ℕ) (old : List StoredSeries) → AreRead (page - 1) count fresh old → IsReadTo bytes page fresh 0 old old
-read_none bytes page count fresh old read = record { len = omega arith; fit = read.fit; distinct = read.distinct; told = λ image same were. were }
+pub read_none : (bytes : List ℕ) (page count fresh : ℕ) (old : List StoredSeries) → AreRead (page - 1) count fresh old
+    → IsReadTo bytes page fresh 0 old old
+read_none bytes page count fresh old read = record {
+  len = omega arith;
+  fit = read.fit;
+  distinct = read.distinct;
+  told = λ image same were. were;
+}
 
-pub read_all : (bytes : List ℕ) (page count fresh number : ℕ) (old series : List StoredSeries) → 1 ≤ page → number ≡ records_of page count → AreRead (page - 1) count fresh old → IsReadTo bytes page fresh number old series
+pub read_all : (bytes : List ℕ) (page count fresh number : ℕ) (old series : List StoredSeries) → 1 ≤ page → number ≡ records_of page count
+    → AreRead (page - 1) count fresh old → IsReadTo bytes page fresh number old series
     → AreRead page count fresh series
 read_all bytes page count fresh number old series low all before read = record {
   len = omega (arith, read.len, all, len_more page count (length old) low before.len);

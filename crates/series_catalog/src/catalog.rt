@@ -65,7 +65,8 @@ impl Catalog {
     pub fn set_tree(&mut self, id: u16, tree: Tree)
         requires { id < length self.old.series.items }
         ensures len { length self.new.series.items ≡ length self.old.series.items }
-        ensures set { IfSome (slice_get self.old.series.items id) (λ one. self.new.series.items ≡ with_tree self.old.series.items id one tree) }
+        ensures set { IfSome (slice_get self.old.series.items id)
+            (λ one. self.new.series.items ≡ with_tree self.old.series.items id one tree) }
     {
         self.series[usize::from(id)].tree = tree;
     }
@@ -82,7 +83,8 @@ impl Catalog {
 
     /// Takes the last series away.
     pub fn take_last(&mut self)
-        ensures { (series : List StoredSeries) (last : StoredSeries) → self.old.series.items ≡ series ++ last ∷ [] → self.new.series.items ≡ series }
+        ensures { (series : List StoredSeries) (last : StoredSeries) → self.old.series.items ≡ series ++ last ∷ []
+            → self.new.series.items ≡ series }
     {
         self.series.pop();
     }

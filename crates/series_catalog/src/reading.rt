@@ -1,5 +1,6 @@
 //! A catalog is read.
-ghost use Rattle.std.specs.Prelude.{◌≡◌, ◌≢◌, ◌<◌, ◌≤◌, ◌+◌, ◌-◌, ◌++◌, ◌∷◌, [], ◌⊎◌, None, length, map, AllPairs, IsTrue, IfOk, IfErr, OnOk};
+ghost use Rattle.std.specs.Prelude.{◌≡◌, ◌≢◌, ◌<◌, ◌≤◌, ◌+◌, ◌-◌, ◌++◌, ◌∷◌, [], ◌⊎◌, None, length, map, AllPairs, IsTrue, IfOk, IfErr};
+ghost use Rattle.std.specs.Prelude.{OnOk};
 ghost use Rattle.block_disk.specs.View.{Image};
 ghost use Rattle.catalog_page.specs.Entries.{entry_of as entry_of_record};
 ghost use Rattle.catalog_page.specs.Layout.{KeepsLayout};
@@ -80,8 +81,10 @@ fn add_page(
     requires read { AreRead (page - 1) count fresh (series_in catalog.old) }
     ensures read { OnOk result (AreRead page count fresh (series_in catalog.new)) }
     ensures keeps { OnOk result (KeepsLayout (count_of_records page count) fresh bytes.now) }
-    ensures told { OnOk result ((image : Image) → image page ≡ bytes.now → AreAsTold image (series_in catalog.old) → AreAsTold image (series_in catalog.new)) }
-    ensures cause { IfErr result (λ e. IsPageCause e page ((image : Image) → image page ≡ bytes.now → AreAsTold image (series_in catalog.old)
+    ensures told { OnOk result ((image : Image) → image page ≡ bytes.now → AreAsTold image (series_in catalog.old)
+        → AreAsTold image (series_in catalog.new)) }
+    ensures cause { IfErr result (λ e. IsPageCause e page ((image : Image) → image page ≡ bytes.now
+        → AreAsTold image (series_in catalog.old)
         → (KeepsLayout (count_of_records page count) fresh bytes.now → ⊥) ⊎ HasRepeatedName image count page)) }
 {
     let Ok(view) = CatalogView::new(bytes, records_of(page, count), fresh) else {
@@ -110,9 +113,12 @@ fn read_page<P: Pages>(
     requires told { shown.IsTold space.old → AreAsTold (shown.image space.old) (series_in catalog.old) }
     ensures read { OnOk result (AreRead page (shown.numbers space.old).series (shown.numbers space.old).fresh (series_in catalog.new)) }
     ensures told { OnOk result (shown.IsTold space.old → AreAsTold (shown.image space.old) (series_in catalog.new)) }
-    ensures keeps { OnOk result (shown.IsTold space.old → KeepsLayout (count_of_records page (shown.numbers space.old).series) (shown.numbers space.old).fresh (shown.image space.old page)) }
+    ensures keeps { OnOk result (shown.IsTold space.old
+        → KeepsLayout (count_of_records page (shown.numbers space.old).series) (shown.numbers space.old).fresh
+        (shown.image space.old page)) }
     ensures place { IfErr result IsCatalogPage }
-    ensures cause { IfErr result (λ e. IsCatalogCause e (shown.IsTold space.old) (shown.numbers space.old) (shown.view space.old) (shown.view space.new)) }
+    ensures cause { IfErr result (λ e. IsCatalogCause e (shown.IsTold space.old) (shown.numbers space.old) (shown.view space.old)
+        (shown.view space.new)) }
     ensures quiet { OnOk result ((shown.view space.new).faults ≡ (shown.view space.old).faults) }
     ensures quiet_err { IfErr result (λ e. e ≢ CatalogError.DiskFault → (shown.view space.new).faults ≡ (shown.view space.old).faults) }
     ensures reads { shown.ReadsOne space.old space.new }
@@ -140,9 +146,11 @@ fn read_pages<P: Pages>(
     ensures read { OnOk result (AreRead 16 (shown.numbers space.old).series (shown.numbers space.old).fresh (series_in catalog.new)) }
     ensures few { (shown.numbers space.old).series ≤ 512 }
     ensures told { OnOk result (shown.IsTold space.old → AreAsTold (shown.image space.old) (series_in catalog.new)) }
-    ensures whole { OnOk result (shown.IsTold space.old → AreCatalog (shown.image space.old) (shown.numbers space.old).fresh (shown.numbers space.old).series) }
+    ensures whole { OnOk result (shown.IsTold space.old
+        → AreCatalog (shown.image space.old) (shown.numbers space.old).fresh (shown.numbers space.old).series) }
     ensures place { IfErr result IsCatalogPage }
-    ensures cause { IfErr result (λ e. IsCatalogCause e (shown.IsTold space.old) (shown.numbers space.old) (shown.view space.old) (shown.view space.new)) }
+    ensures cause { IfErr result (λ e. IsCatalogCause e (shown.IsTold space.old) (shown.numbers space.old) (shown.view space.old)
+        (shown.view space.new)) }
     ensures quiet { OnOk result ((shown.view space.new).faults ≡ (shown.view space.old).faults) }
     ensures quiet_err { IfErr result (λ e. e ≢ CatalogError.DiskFault → (shown.view space.new).faults ≡ (shown.view space.old).faults) }
     ensures reads { ReadsUpTo 16 space.old space.new }
@@ -166,9 +174,11 @@ pub fn read_catalog<P: Pages>(alloc: Global, space: &mut Space<P>) -> Result<Cat
     ensures fit { IfOk result (λ catalog. AreFit (shown.numbers space.old).fresh (series_in catalog)) }
     ensures distinct { IfOk result (λ catalog. AllPairs (λ one other. one ≢ other) (map (λ series. series.name) (series_in catalog))) }
     ensures told { IfOk result (λ catalog. shown.IsTold space.old → AreAsTold (shown.image space.old) (series_in catalog)) }
-    ensures whole { IfOk result (λ catalog. shown.IsTold space.old → AreCatalog (shown.image space.old) (shown.numbers space.old).fresh (shown.numbers space.old).series) }
+    ensures whole { IfOk result (λ catalog. shown.IsTold space.old
+        → AreCatalog (shown.image space.old) (shown.numbers space.old).fresh (shown.numbers space.old).series) }
     ensures place { IfErr result IsCatalogPage }
-    ensures cause { IfErr result (λ e. IsCatalogCause e (shown.IsTold space.old) (shown.numbers space.old) (shown.view space.old) (shown.view space.new)) }
+    ensures cause { IfErr result (λ e. IsCatalogCause e (shown.IsTold space.old) (shown.numbers space.old) (shown.view space.old)
+        (shown.view space.new)) }
     ensures quiet { OnOk result ((shown.view space.new).faults ≡ (shown.view space.old).faults) }
     ensures quiet_err { IfErr result (λ e. e ≢ CatalogError.DiskFault → (shown.view space.new).faults ≡ (shown.view space.old).faults) }
     ensures reads { ReadsUpTo 16 space.old space.new }

@@ -35,9 +35,12 @@ pub fn put_record<P: Pages>(
     ensures others { (p : ℕ) → p ≢ page_of id → held_page txn.new p ≡ held_page txn.old p }
     ensures len { length (held txn.new) ≤ length (held txn.old) + 1 }
     ensures err { OnErr result (txn.new ≡ txn.old) }
-    ensures set { shown.IsTold space.old → OnOk result (IsRecordSet (shown.left space.old txn.old) (shown.left space.old txn.new) id (entry_with series.now tree)) }
-    ensures kept { shown.IsTold space.old → OnOk result (ForEntry (entry_with series.now tree) (KeepsRecords (shown.left space.old txn.old) (shown.left space.old txn.new) id)) }
-    ensures added { shown.IsTold space.old → OnOk result (ForEntry (entry_with series.now tree) (AddsRecord (shown.left space.old txn.old) (shown.left space.old txn.new) id)) }
+    ensures set { shown.IsTold space.old → OnOk result
+        (IsRecordSet (shown.left space.old txn.old) (shown.left space.old txn.new) id (entry_with series.now tree)) }
+    ensures kept { shown.IsTold space.old → OnOk result
+        (ForEntry (entry_with series.now tree) (KeepsRecords (shown.left space.old txn.old) (shown.left space.old txn.new) id)) }
+    ensures added { shown.IsTold space.old → OnOk result
+        (ForEntry (entry_with series.now tree) (AddsRecord (shown.left space.old txn.old) (shown.left space.old txn.new) id)) }
     ensures stands { KeepsStanding txn.old txn.new }
     ensures reads { shown.ReadsOne space.old space.new }
     ensures goes_on { shown.TimeGoesOn space.old space.new }

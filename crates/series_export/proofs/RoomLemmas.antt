@@ -1,5 +1,6 @@
 -- A series whose slots are the first of another's has no more pages.
-use Rattle.std.proofs.Common.{◌≡◌, ℕ, ℤ, zero, suc, ◌+◌, ◌-◌, ◌*◌, ◌^◌, ◌≤◌, Bool, true, false, cond, List, [], ◌∷◌, ◌++◌, length, take, drop, Option, None, Some, refl, ap, arith, length-append}
+use Rattle.std.proofs.Common.{◌≡◌, ℕ, ℤ, zero, suc, ◌+◌, ◌-◌, ◌*◌, ◌^◌, ◌≤◌, Bool, true, false, cond, List, [], ◌∷◌, ◌++◌, length, take}
+use Rattle.std.proofs.Common.{drop, Option, None, Some, refl, ap, arith, length-append}
 use Rattle.std.specs.Option.{is_some}
 use Rattle.std.specs.List.{list_any}
 use Rattle.series_book.specs.declared.limits.TheConstants.{PAGE_SLOTS, MOST_SLOTS}
@@ -19,7 +20,8 @@ nothing : (n : ℕ) → list_any is_some (take n (let none : List (Option ℤ) =
 nothing zero = refl
 nothing (suc n) = refl
 
-range_more : (m n : ℕ) (xs ys : List (Option ℤ)) → list_any is_some (take n (drop m xs)) ≡ true → list_any is_some (take n (drop m (xs ++ ys))) ≡ true
+range_more : (m n : ℕ) (xs ys : List (Option ℤ)) → list_any is_some (take n (drop m xs)) ≡ true
+    → list_any is_some (take n (drop m (xs ++ ys))) ≡ true
 range_more zero n [] ys is = let none = nothing n in absurd (cc)
 range_more (suc m) n [] ys is = let none = nothing n in absurd (cc)
 range_more zero n (x ∷ xs) ys is = any_more n (x ∷ xs) ys is
@@ -67,7 +69,8 @@ unfolding level_pages
 pages_of_levels zero xs ys = omega arith
 pages_of_levels (suc k) xs ys = omega (arith, pages_of_levels k xs ys, ranges_more (PAGE_SLOTS ^ suc k) xs ys)
 
-level_suc : (k : ℕ) (slots : List (Option ℤ)) → level_pages (suc k) slots ≡ level_pages k slots + ranges_with_value (PAGE_SLOTS ^ suc k) slots
+level_suc : (k : ℕ) (slots : List (Option ℤ)) → level_pages (suc k) slots ≡ level_pages k slots + ranges_with_value
+    (PAGE_SLOTS ^ suc k) slots
 unfolding level_pages
 level_suc k slots = refl
 
@@ -83,6 +86,11 @@ series_pages_more xs ys short =
     let few : length xs ≤ MOST_SLOTS = omega (arith, length-append xs ys, short) in
     let low = page_levels (length xs) in
     let high = page_levels (length (xs ++ ys)) in
-    let up : low ≤ high = omega (arith, levels_same (length xs) few, levels_same (length (xs ++ ys)) short, levels_more (length xs) (length (xs ++ ys)) (omega (arith, length-append xs ys))) in
+    let up : low ≤ high = omega (
+      arith,
+      levels_same (length xs) few,
+      levels_same (length (xs ++ ys)) short,
+      levels_more (length xs) (length (xs ++ ys)) (omega (arith, length-append xs ys)),
+    ) in
     let sum : (high - low) + low ≡ high = omega (arith, up) in
     omega (arith, pages_of_levels low xs ys, pages_on low (high - low) (xs ++ ys), ap (λ k. level_pages k (xs ++ ys)) sum)

@@ -11,7 +11,8 @@ use Rattle.series_export.specs.declared.window.Window.{Window}
 
 -- The page is unfit for its place in the tree that the record of this id names, where its range begins with this slot. Of the
 -- series' export in the window all was sent that stands before it, and no more.
-pub record ExportsBefore (image : Image) (total id page : ℕ) (series : Series) (window : Option Window) (before now : Option (List ℕ)) : Type 0 where
+pub record ExportsBefore (image : Image) (total id page : ℕ) (series : Series) (window : Option Window)
+    (before now : Option (List ℕ)) : Type 0 where
   pub slot : ℕ
   pub from : IsUnfitIn image total id page slot
   pub sent : now ≡ sent_after (export_text (first_slots series slot) window) before

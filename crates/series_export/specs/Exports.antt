@@ -1,5 +1,6 @@
 -- What is exported of a series: its stored values as lines, in rising time.
-use Rattle.std.specs.Prelude.{ℕ, ℤ, pos, ◌*◌, ◌-◌, ◌+ℤ◌, Bool, true, ◌&&◌, int_le, int_lt, if◌then◌else◌, List, [], ◌∷◌, ◌++◌, take, flat_map, codes, Option, None, Some}
+use Rattle.std.specs.Prelude.{ℕ, ℤ, pos, ◌*◌, ◌-◌, ◌+ℤ◌, Bool, true, ◌&&◌, int_le, int_lt, if◌then◌else◌, List, [], ◌∷◌, ◌++◌, take}
+use Rattle.std.specs.Prelude.{flat_map, codes, Option, None, Some}
 use Rattle.std.specs.List.{filter}
 use Rattle.reading_lines.specs.Lines.{reading_line}
 use Rattle.series_book.specs.declared.one_series.Series.{Series}
@@ -53,7 +54,8 @@ slot_time start step slot = start +ℤ pos (slot * step)
 
 -- the line of the value of a slot, where the slot's time is in the window
 abbrev pub line_at : ℤ → ℕ → ℕ → Option Window → ℕ → ℤ → List ℕ
-line_at start step scale window slot value = if is_within window (slot_time start step slot) then reading_line scale (slot_time start step slot) value else []
+line_at start step scale window slot value = if is_within window (slot_time start step slot) then reading_line scale
+    (slot_time start step slot) value else []
 
 -- a time of the slots from first on and below end may be in the window
 abbrev pub may_be_in : ℤ → ℕ → Option Window → ℕ → ℕ → Bool

@@ -18,20 +18,23 @@ use Rattle.series_export.specs.Room.{HasNewFor, HasRoomFor, AreRunsOf, Accepts, 
 abbrev pub SetsHoldTheSame : Type 0
 SetsHoldTheSame =
     (series begun : Series) (rows : List (Option Reading)) (runs : List Run) (total : ℕ) (name : List ℕ) (book new : List Series)
-    → 1 ≤ series.step → IsBegunAs series begun → IsNamed book name begun → values_of rows ≡ stored_values series → AllRuns series.step rows runs
+    → 1 ≤ series.step → IsBegunAs series begun → IsNamed book name begun → values_of rows ≡ stored_values series
+    → AllRuns series.step rows runs
     → Loads total name book runs new → HoldsNamed new name series
 
 -- The rows of the export of a series read its stored values.
 abbrev pub RowsAreTheValues : Type 0
 RowsAreTheValues =
     (series : Series) (rows : List (Option Reading))
-    → IsSeries series → ReadsRows series.scale (export_text series None) (export_text series None) [] rows → values_of rows ≡ stored_values series
+    → IsSeries series → ReadsRows series.scale (export_text series None) (export_text series None) [] rows
+    → values_of rows ≡ stored_values series
 
 -- A load of the whole export into a new series of the same start, step and scale gives it the same values.
 abbrev pub LoadedExportsAreTheSame : Type 0
 LoadedExportsAreTheSame =
     (total : ℕ) (name : List ℕ) (book : List Series) (series begun : Series) (count : ℕ) (image : Image)
-    → IsSeries series → IsBegunAs series begun → IsNamed book name begun → IsLoaded total name book begun (export_text series None) count image
+    → IsSeries series → IsBegunAs series begun → IsNamed book name begun
+    → IsLoaded total name book begun (export_text series None) count image
     → StandsForSame total name series image
 
 -- Where the sets of the runs are accepted, there was room for them.
@@ -45,7 +48,8 @@ RoomIsNeeded =
 abbrev pub ExportsGoThrough : Type 0
 ExportsGoThrough =
     (total : ℕ) (name : List ℕ) (book : List Series) (series begun : Series)
-    → IsSeries series → HasRoomFor total name book series → IsNamed book name begun → GoesThrough total name book begun (export_text series None)
+    → IsSeries series → HasRoomFor total name book series → IsNamed book name begun
+    → GoesThrough total name book begun (export_text series None)
 
 -- Of the pieces of a window, one behind the other, comes the export of the window, line by line.
 abbrev pub PiecesAreTheExport : Type 0
@@ -58,4 +62,5 @@ PiecesAreTheExport =
 abbrev pub PiecesAreTheWholeExport : Type 0
 PiecesAreTheWholeExport =
     (series : Series) (pieces : List Piece)
-    → ArePieces series.slots 0 (length series.slots) pieces → export_text series None ≡ header ++ lines_of series.scale (readings_in series pieces)
+    → ArePieces series.slots 0 (length series.slots) pieces
+    → export_text series None ≡ header ++ lines_of series.scale (readings_in series pieces)

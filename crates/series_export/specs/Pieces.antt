@@ -22,18 +22,23 @@ piece_of slots from to = record { runs = runs_from from (window slots from to); 
 -- pieces of the slots from `from` on and below `to`, each asked for from where the one before it ends
 abbrev pub ArePieces : List (Option ℤ) → ℕ → ℕ → List Piece → Type 0
 ArePieces slots from to [] = to ≤ from
-ArePieces slots from to (piece ∷ pieces) = (from < to) × (piece ≡ piece_of slots from (piece_end from to)) × ArePieces slots (piece_end from to) to pieces
+ArePieces slots from to (piece ∷ pieces) = (from < to) × (piece ≡ piece_of slots from (piece_end from to))
+    × ArePieces slots (piece_end from to) to pieces
 
 -- values of slots one behind the other, the first of which is this one
 unfoldable pub readings_from : ℤ → ℕ → ℕ → List ℤ → List Stored
 readings_from start step slot [] = []
-readings_from start step slot (value ∷ values) = record { time = slot_time start step slot; value = value } ∷ readings_from start step (suc slot) values
+readings_from start step slot (value ∷ values) = record {
+  time = slot_time start step slot;
+  value = value;
+} ∷ readings_from start step (suc slot) values
 
 -- values of the slots of runs
 unfoldable pub readings_of : ℤ → ℕ → List SlotRun → List ℤ → List Stored
 readings_of start step [] values = []
 readings_of start step (run ∷ runs) values =
-    readings_from start step run.first (take (run.end - run.first) values) ++ readings_of start step runs (drop (run.end - run.first) values)
+    readings_from start step run.first (take (run.end - run.first) values) ++ readings_of start step runs
+    (drop (run.end - run.first) values)
 
 -- the values of pieces, one behind the other, at their times
 abbrev pub readings_in : Series → List Piece → List Stored

@@ -44,19 +44,28 @@ pub fn export_series<P: PageWorld>(
 ) -> Result<(), SendError>
     requires sound { (shown.view store.old).fit }
     requires there { id < length (shown.catalog store.old) }
-    ensures sent { shown.ForSeries store.old id (λ total book series. OnOk result (P.sent (shown.pages store.new) ≡ sent_after (export_text series window) (P.sent (shown.pages store.old)))) }
-    ensures part { shown.ForSeries store.old id (λ total book series. OnErr result (PartSent (export_text series window) (P.sent (shown.pages store.old)) (P.sent (shown.pages store.new)))) }
+    ensures sent { shown.ForSeries store.old id (λ total book series. OnOk result
+        (P.sent (shown.pages store.new) ≡ sent_after (export_text series window) (P.sent (shown.pages store.old)))) }
+    ensures part { shown.ForSeries store.old id (λ total book series. OnErr result
+        (PartSent (export_text series window) (P.sent (shown.pages store.old)) (P.sent (shown.pages store.new)))) }
     ensures no_damage { shown.ForSeries store.old id (λ total book series. IfErr result IsNoDamage) }
-    ensures reads { shown.ForSeries store.old id (λ total book series. (shown.view store.new).reads ≤ (shown.view store.old).reads + series_pages series.slots) }
+    ensures reads { shown.ForSeries store.old id (λ total book series.
+        (shown.view store.new).reads ≤ (shown.view store.old).reads + series_pages series.slots) }
     // so it is of what the record and, where its pages fit, the tree stand for, whatever else the pages are
-    ensures salvaged { shown.ForFit store.old id (λ series. OnOk result (P.sent (shown.pages store.new) ≡ sent_after (export_text series window) (P.sent (shown.pages store.old)))) }
-    ensures salvaged_part { shown.ForFit store.old id (λ series. OnErr result (PartSent (export_text series window) (P.sent (shown.pages store.old)) (P.sent (shown.pages store.new)))) }
-    ensures salvaged_reads { shown.ForFit store.old id (λ series. (shown.view store.new).reads ≤ (shown.view store.old).reads + window_pages series window) }
+    ensures salvaged { shown.ForFit store.old id (λ series. OnOk result
+        (P.sent (shown.pages store.new) ≡ sent_after (export_text series window) (P.sent (shown.pages store.old)))) }
+    ensures salvaged_part { shown.ForFit store.old id
+        (λ series. OnErr result (PartSent (export_text series window) (P.sent (shown.pages store.old)) (P.sent (shown.pages store.new)))) }
+    ensures salvaged_reads { shown.ForFit store.old id
+        (λ series. (shown.view store.new).reads ≤ (shown.view store.old).reads + window_pages series window) }
     // where a page is damaged, the lines of all values before its slots were sent
-    ensures cut { shown.ForFit store.old id (λ series. IfErr result (λ e. CutsExport e (shown.image store.old) (shown.total store.old) id series window (P.sent (shown.pages store.old)) (P.sent (shown.pages store.new)))) }
+    ensures cut { shown.ForFit store.old id (λ series. IfErr result
+        (λ e. CutsExport e (shown.image store.old) (shown.total store.old) id series window (P.sent (shown.pages store.old))
+        (P.sent (shown.pages store.new)))) }
     // and where the whole tree stands none is
     ensures sound { shown.ForKept store.old id (λ series. IfErr result IsNoDamage) }
-    ensures cause { IfErr result (λ e. IsSeriesCause e (shown.IsTold store.old) (shown.numbers store.old) id (shown.view store.old) (shown.view store.new)) }
+    ensures cause { IfErr result (λ e. IsSeriesCause e (shown.IsTold store.old) (shown.numbers store.old) id (shown.view store.old)
+        (shown.view store.new)) }
     ensures faults { CountsFault (fault_in send_fault result) (shown.view store.old) (shown.view store.new) }
     // a crash leaves at each moment what it might have left before
     ensures sends { SendsOn store.old store.new }

@@ -9,7 +9,8 @@ ghost use Rattle.series_export.specs.Exports.{export_text, window_pages};
 ghost use Rattle.series_export.specs.RoundTrips.{HoldsSame};
 ghost use Rattle.series_export.specs.Room.{HasRoomFor, AcceptsRunsOf, LoadsBack};
 ghost use Rattle.series_export.specs.declared.window.Window.{Window};
-ghost use Rattle.series_export.specs.Laws.{SetsHoldTheSame, RowsAreTheValues, LoadedExportsAreTheSame, RoomIsNeeded, ExportsGoThrough, PiecesAreTheExport, PiecesAreTheWholeExport};
+ghost use Rattle.series_export.specs.Laws.{SetsHoldTheSame, RowsAreTheValues, LoadedExportsAreTheSame, RoomIsNeeded, ExportsGoThrough};
+ghost use Rattle.series_export.specs.Laws.{PiecesAreTheExport, PiecesAreTheWholeExport};
 
 use csv_load::laws::{one_answer, plain_lines};
 use reading_lines::laws::{lines_are_plain, lines_are_read_back};
@@ -20,7 +21,8 @@ use series_load::laws::runs_are_one;
 /// same text.
 pub fn loads_hold_the_same()
     ensures sets { SetsHoldTheSame }
-    ensures text { (series after : Series) (window : Option Window) → HoldsSame series after → export_text after window ≡ export_text series window }
+    ensures text { (series after : Series) (window : Option Window) → HoldsSame series after
+        → export_text after window ≡ export_text series window }
 {}
 
 /// A load reads the export of a series as rows whose readings are the series' stored values at their times,
@@ -28,7 +30,8 @@ pub fn loads_hold_the_same()
 /// start, step and scale gives it the same values at the same slots.
 pub fn exports_are_read_back()
     ensures rows { RowsAreTheValues }
-    ensures reads { (series : Series) → IsSeries series → (rows : List (Option Reading)) × ReadsRows series.scale (export_text series None) (export_text series None) [] rows }
+    ensures reads { (series : Series) → IsSeries series → (rows : List (Option Reading))
+        × ReadsRows series.scale (export_text series None) (export_text series None) [] rows }
     ensures loaded { LoadedExportsAreTheSame }
 {
     lines_are_plain();
@@ -41,9 +44,11 @@ pub fn exports_are_read_back()
 /// and each of its sets is accepted; then that one holds the same values at the same slots, and its export is the same text. The sets
 /// are accepted of any rows that read the series' stored values, and that room is needed for it.
 pub fn exports_load_where_there_is_room()
-    ensures sets { (total : ℕ) (name : List ℕ) (book : List Series) (series : Series) → IsSeries series → HasRoomFor total name book series → AcceptsRunsOf total name book series }
+    ensures sets { (total : ℕ) (name : List ℕ) (book : List Series) (series : Series) → IsSeries series → HasRoomFor total name book series
+        → AcceptsRunsOf total name book series }
     ensures needed { RoomIsNeeded }
-    ensures back { (total : ℕ) (name : List ℕ) (book : List Series) (series : Series) → IsSeries series → HasRoomFor total name book series → LoadsBack total name book series }
+    ensures back { (total : ℕ) (name : List ℕ) (book : List Series) (series : Series) → IsSeries series → HasRoomFor total name book series
+        → LoadsBack total name book series }
     ensures through { ExportsGoThrough }
 {
     lines_are_plain();
@@ -62,5 +67,6 @@ pub fn pieces_are_the_export()
 
 /// The pages of a series' tree that an export in a window reads are no more than the tree has.
 pub fn windows_have_no_more_pages()
-    ensures { (series : Series) (window : Option Window) → length series.slots ≤ MOST_SLOTS → window_pages series window ≤ series_pages series.slots }
+    ensures { (series : Series) (window : Option Window) → length series.slots ≤ MOST_SLOTS
+        → window_pages series window ≤ series_pages series.slots }
 {}

@@ -11,14 +11,16 @@ use Rattle.line_runs.specs.declared.lines_stop.LinesStop.{LinesStop}
 use Rattle.line_runs.specs.declared.lines_stop.LinesStop.TheVariants as stop
 use Rattle.run_ends.specs.declared.ending.End.{End}
 use Rattle.stored_book.specs.Standing.{StandsForBook}
-use Rattle.series_load.specs.Loading.{Booked, Held, IsBooked, LoadDoes, LoadLeaves, LoadStops, Loading, LoadingDoes, LoadingLeaves, LoadingStops, RestsSo, Scanned, StandsFor, StandsSo}
+use Rattle.series_load.specs.Loading.{Booked, Held, IsBooked, LoadDoes, LoadLeaves, LoadStops, Loading, LoadingDoes, LoadingLeaves}
+use Rattle.series_load.specs.Loading.{LoadingStops, RestsSo, Scanned, StandsFor, StandsSo}
 use Rattle.series_load.specs.declared.loader.Loader.{Loader}
 
 booked_of : (P : Held → Type 0) (loading : Loading) → IsBooked P loading → (held : Held) × (loading ≡ Booked held) × P held
 booked_of P (Booked held) is = (held, refl, is)
 booked_of P (Scanned scan) is = absurd is
 
-pub carries_booked : (given : List Given) (held : Held) (text : List ℕ) (behind : Loading) → Carries LoadingDoes (Booked held) given text behind
+pub carries_booked : (given : List Given) (held : Held) (text : List ℕ) (behind : Loading)
+    → Carries LoadingDoes (Booked held) given text behind
     → (last : Held) × (behind ≡ Booked last) × Carries LoadDoes held given text last
 carries_booked [] held text behind all = (held, all.1, (all.0, refl))
 carries_booked (it ∷ later) held text behind all =
@@ -31,14 +33,16 @@ carries_booked (it ∷ later) held text behind all =
     )
 
 module _ (start : Held) where
-  abbrev last_of : (done : Done LoadingDoes (Booked start)) → (last : Held) × (done.behind ≡ Booked last) × Carries LoadDoes start done.given done.text last
+  abbrev last_of : (done : Done LoadingDoes (Booked start))
+      → (last : Held) × (done.behind ≡ Booked last) × Carries LoadDoes start done.given done.text last
   last_of done = carries_booked done.given start done.text done.behind done.carries
 
   abbrev pub done_booked : Done LoadingDoes (Booked start) → Done LoadDoes start
   done_booked done = record { given = done.given; text = done.text; behind = (last_of done).0; carries = (last_of done).2 }
 
   pub runs_booked : (AreSo : List ℕ → List Given → Type 0) (IsNow : Loading → Type 0) (input before now : Option (List ℕ))
-      → runs.Runs LoadingDoes (Booked start) AreSo IsNow input before now → runs.Runs LoadDoes start AreSo (λ held. IsNow (Booked held)) input before now
+      → runs.Runs LoadingDoes (Booked start) AreSo IsNow input before now
+      → runs.Runs LoadDoes start AreSo (λ held. IsNow (Booked held)) input before now
   runs_booked AreSo IsNow input before now all = record {
     done = done_booked all.done;
     are = all.are;

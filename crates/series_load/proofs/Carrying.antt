@@ -17,7 +17,10 @@ carries_none told at under total count = record {
   more = omega arith;
 }
 
-pub carries_then : (told told' told'' : Type 0) (old mid new under under' under'' : View) (total total' total'' count count' count'' : ℕ) → Carries told told' old mid under under' total total' count count' → Carries told' told'' mid new under' under'' total' total'' count' count'' → Carries told told'' old new under under'' total total'' count count''
+pub carries_then : (told told' told'' : Type 0) (old mid new under under' under'' : View) (total total' total'' count count' count'' : ℕ)
+    → Carries told told' old mid under under' total total' count count'
+    → Carries told' told'' mid new under' under'' total' total'' count' count''
+    → Carries told told'' old new under under'' total total'' count count''
 carries_then told told' told'' old mid new under under' under'' total total' total'' count count' count'' first second = record {
   is_told = λ says. second.is_told (first.is_told says);
   was_told = λ says. first.was_told (second.was_told says);

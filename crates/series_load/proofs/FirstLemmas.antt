@@ -1,5 +1,6 @@
 -- Some first of the first runs of an input are first runs of it too.
-use Rattle.std.proofs.Common.{◌≡◌, ◌⊎◌, ◌∙◌, ℕ, ◌+◌, ◌^◌, ◌≤◌, Bool, true, false, cond, List, [], ◌∷◌, ◌++◌, length, map, Option, None, Some, refl, ap, ap₂, sym, subst, inl, inr, arith, append_assoc, length-append}
+use Rattle.std.proofs.Common.{◌≡◌, ◌⊎◌, ◌∙◌, ℕ, ◌+◌, ◌^◌, ◌≤◌, Bool, true, false, cond, List, [], ◌∷◌, ◌++◌, length, map, Option, None}
+use Rattle.std.proofs.Common.{Some, refl, ap, ap₂, sym, subst, inl, inr, arith, append_assoc, length-append}
 use Rattle.std.specs.List.{filter}
 use Rattle.std.proofs.lemmas.List.{append-nil, length-map, map-append}
 use Rattle.chart_world.specs.FrontLaws.{told_split}
@@ -35,14 +36,20 @@ alone_first step run (Some next ∷ later) is breaks = record {
   first = rows_of run ++ Some next ∷ [];
   behind = later;
   split = sym (append_assoc (rows_of run) (Some next ∷ []) later);
-  ended = (Some (one_run next), whole run (Some next ∷ []) [] (Some (one_run next)) is (inr breaks) (still (one_run next) (one_is_run step next) (omega arith)));
+  ended = (
+    Some (one_run next),
+    whole run (Some next ∷ []) [] (Some (one_run next)) is (inr breaks)
+        (still (one_run next) (one_is_run step next) (omega arith)),
+  );
 }
 
-breaks_front : (step : ℕ) (run : Run) (row : Option Reading) (first behind : Rows) → Breaks step run (row ∷ (first ++ behind)) → Breaks step run (row ∷ first)
+breaks_front : (step : ℕ) (run : Run) (row : Option Reading) (first behind : Rows) → Breaks step run (row ∷ (first ++ behind))
+    → Breaks step run (row ∷ first)
 breaks_front step run None first behind breaks = tt
 breaks_front step run (Some next) first behind breaks = breaks
 
-run_first : (step : ℕ) (run : Run) (rows : Rows) (runs : List Run) → IsRun step run → EndsAt step run rows → FirstRows step rows runs → FirstRows step (rows_of run ++ rows) (run ∷ runs)
+run_first : (step : ℕ) (run : Run) (rows : Rows) (runs : List Run) → IsRun step run → EndsAt step run rows → FirstRows step rows runs
+    → FirstRows step (rows_of run ++ rows) (run ∷ runs)
 run_first step run rows runs is (inl full) f = record {
   first = rows_of run ++ f.first;
   behind = f.behind;
@@ -62,17 +69,27 @@ run_first step run rows runs is (inr breaks) f = by f.first f.split f.ended
           first = rows_of run ++ row ∷ first;
           behind = f.behind;
           split = ap (λ r. rows_of run ++ r) split ∙ sym (append_assoc (rows_of run) (row ∷ first) f.behind);
-          ended = (ended.0, whole run (row ∷ first) runs ended.0 is (inr (breaks_front step run row first f.behind (subst P split breaks))) ended.1);
+          ended = (
+            ended.0,
+            whole run (row ∷ first) runs ended.0 is
+                (inr (breaks_front step run row first f.behind (subst P split breaks))) ended.1,
+          );
         }
 
-first_rows : {step : ℕ} {rows : Rows} {all : List Run} {open_run : Option Run} → Cut step rows all open_run → (runs later : List Run) → all ≡ runs ++ later → FirstRows step rows runs
+first_rows : {step : ℕ} {rows : Rows} {all : List Run} {open_run : Option Run} → Cut step rows all open_run → (runs later : List Run)
+    → all ≡ runs ++ later → FirstRows step rows runs
 first_rows {step} {rows} nothing [] later is = none_first step []
 first_rows {step} nothing (run ∷ runs) later is = cc
 first_rows {step} (still run is_run few) [] later is = none_first step (rows_of run)
 first_rows {step} (still run is_run few) (other ∷ runs) later is = cc
 first_rows {step} (gap rows all open_run cut) runs later is =
     let f = first_rows cut runs later is in
-    record { first = None ∷ f.first; behind = f.behind; split = ap (λ r. None ∷ r) f.split; ended = (f.ended.0, gap f.first runs f.ended.0 f.ended.1) }
+    record {
+      first = None ∷ f.first;
+      behind = f.behind;
+      split = ap (λ r. None ∷ r) f.split;
+      ended = (f.ended.0, gap f.first runs f.ended.0 f.ended.1);
+    }
 first_rows {step} (whole run rows all open_run is_run ended cut) [] later is = none_first step (rows_of run ++ rows)
 first_rows {step} (whole run rows all open_run is_run ended cut) (other ∷ runs) later is =
     let same : run ≡ other = cc in
@@ -88,14 +105,16 @@ record FirstLines (scale : ℕ) (lines : List PlacedLine) (rows : Rows) : Type 0
   pub split : lines ≡ first ++ behind
   pub table : AreTable scale first rows
 
-rows_split : (scale : ℕ) (lines : List PlacedLine) (first behind : Rows) → AreRows scale lines (first ++ behind) → (front : List PlacedLine) × (back : List PlacedLine) × (lines ≡ front ++ back) × AreRows scale front first
+rows_split : (scale : ℕ) (lines : List PlacedLine) (first behind : Rows) → AreRows scale lines (first ++ behind)
+    → (front : List PlacedLine) × (back : List PlacedLine) × (lines ≡ front ++ back) × AreRows scale front first
 rows_split scale lines [] behind are = ([], lines, refl, tt)
 rows_split scale [] (row ∷ first) behind are = absurd are
 rows_split scale (line ∷ lines) (row ∷ first) behind are =
     let rest = rows_split scale lines first behind are.1 in
     (line ∷ rest.0, rest.1, ap (λ l. line ∷ l) rest.2, (are.0, rest.3))
 
-table_split : (scale : ℕ) (lines : List PlacedLine) (first behind : Rows) → AreTable scale lines (first ++ behind) → FirstLines scale lines first
+table_split : (scale : ℕ) (lines : List PlacedLine) (first behind : Rows) → AreTable scale lines (first ++ behind)
+    → FirstLines scale lines first
 table_split scale lines first behind (inl are) =
     let s = rows_split scale lines first behind are in
     record { first = s.0; behind = s.1; split = s.2; table = inl s.3 }
@@ -113,19 +132,23 @@ table_split scale lines first behind (inr has) =
 abbrev texts : List PlacedLine → List (Option (List ℕ))
 texts placed = map (λ line. line.text) placed
 
-texts_from : (at : ℕ) (parts : List (List ℕ)) → texts (filter (λ (line : PlacedLine). says line.text) (placed_from at parts)) ≡ filter says (map text_of parts)
+texts_from : (at : ℕ) (parts : List (List ℕ)) → texts (filter (λ (line : PlacedLine). says line.text) (placed_from at parts)) ≡ filter says
+    (map text_of parts)
 texts_from at [] = refl
 texts_from at (part ∷ parts) = by (says (text_of part)) refl (texts_from (at + length part + 1) parts)
   where
     here : PlacedLine
     here = record { at = at; text = text_of part }
 
-    by : (b : Bool) → says (text_of part) ≡ b → texts (filter (λ (line : PlacedLine). says line.text) (placed_from (at + length part + 1) parts)) ≡ filter says (map text_of parts)
-        → texts (filter (λ (line : PlacedLine). says line.text) (here ∷ placed_from (at + length part + 1) parts)) ≡ filter says (text_of part ∷ map text_of parts)
+    by : (b : Bool) → says (text_of part) ≡ b → texts
+        (filter (λ (line : PlacedLine). says line.text) (placed_from (at + length part + 1) parts)) ≡ filter says (map text_of parts)
+        → texts (filter (λ (line : PlacedLine). says line.text) (here ∷ placed_from (at + length part + 1) parts)) ≡ filter says
+        (text_of part ∷ map text_of parts)
     by true is rest =
         let later = filter (λ (line : PlacedLine). says line.text) (placed_from (at + length part + 1) parts) in
         let others = filter says (map text_of parts) in
-        ap (λ b. texts (cond b (here ∷ later) later)) is ∙ ap (λ l. text_of part ∷ l) rest ∙ sym (ap (λ b. cond b (text_of part ∷ others) others) is)
+        ap (λ b. texts (cond b (here ∷ later) later)) is ∙ ap (λ l. text_of part ∷ l) rest
+        ∙ sym (ap (λ b. cond b (text_of part ∷ others) others) is)
     by false is rest =
         let later = filter (λ (line : PlacedLine). says line.text) (placed_from (at + length part + 1) parts) in
         let others = filter says (map text_of parts) in
@@ -151,10 +174,17 @@ record FirstBytes (input front rest : List ℕ) (first : List PlacedLine) : Type
   pub less : length begun ≤ length front
   pub told_is : told begun ≡ first
 
-first_bytes : (input front rest : List ℕ) (first later : List PlacedLine) → BeginsWith input front rest → told front ≡ first ++ later → FirstBytes input front rest first
+first_bytes : (input front rest : List ℕ) (first later : List PlacedLine) → BeginsWith input front rest → told front ≡ first ++ later
+    → FirstBytes input front rest first
 first_bytes input front rest first later begins split =
-    let f = told_split (length front) front (texts first) (texts later) (omega arith) (sym (texts_told front) ∙ ap texts split ∙ map-append (λ (line : PlacedLine). line.text) first later) in
-    let count : length (told f.front) ≡ length first = omega (arith, length-map (told f.front) (λ (line : PlacedLine). line.text), length-map first (λ (line : PlacedLine). line.text), ap length (texts_told f.front ∙ f.first_are)) in
+    let f = told_split (length front) front (texts first) (texts later) (omega arith) (sym (texts_told front) ∙ ap texts split
+    ∙ map-append (λ (line : PlacedLine). line.text) first later) in
+    let count : length (told f.front) ≡ length first = omega (
+      arith,
+      length-map (told f.front) (λ (line : PlacedLine). line.text),
+      length-map first (λ (line : PlacedLine). line.text),
+      ap length (texts_told f.front ∙ f.first_are),
+    ) in
     record {
       begun = f.front;
       behind = f.rest ++ rest;
@@ -166,7 +196,8 @@ first_bytes input front rest first later begins split =
       told_is = same_front (told f.front) _ first later (sym (told_begins front f.front f.rest f.begins) ∙ split) count;
     }
   where
-    by : (begun behind : List ℕ) → front ≡ begun ++ behind → IsWhole begun ⊎ (behind ≡ []) → IsWhole front ⊎ (rest ≡ []) → IsWhole begun ⊎ (behind ++ rest ≡ [])
+    by : (begun behind : List ℕ) → front ≡ begun ++ behind → IsWhole begun ⊎ (behind ≡ []) → IsWhole front ⊎ (rest ≡ [])
+        → IsWhole begun ⊎ (behind ++ rest ≡ [])
     by begun behind split (inl is_whole) either = inl is_whole
     by begun behind split (inr none) (inl is_whole) =
         let P : List ℕ → Type 0 = IsWhole in
@@ -175,7 +206,9 @@ first_bytes input front rest first later begins split =
 
 -- ---- both
 
-within_rows : (scale step : ℕ) (input front rest : List ℕ) (rows : Rows) (runs : List Run) → length front ≤ 2 ^ 32 → ReadsRows scale input front rest rows → (first behind : Rows) → rows ≡ first ++ behind → Ended step first runs → AreFirst scale step input runs
+within_rows : (scale step : ℕ) (input front rest : List ℕ) (rows : Rows) (runs : List Run) → length front ≤ 2 ^ 32
+    → ReadsRows scale input front rest rows → (first behind : Rows) → rows ≡ first ++ behind → Ended step first runs
+    → AreFirst scale step input runs
 within_rows scale step input front rest rows runs early reads first behind split ended =
     let P : Rows → Type 0 = λ r. AreTable scale (told front) r in
     let t = table_split scale (told front) first behind (subst P split reads.table) in
@@ -205,7 +238,8 @@ without_last {X} (y ∷ xs) x (a ∷ us) b bs is =
     let w = without_last xs x us b bs later in
     record { others = w.others; split = ap₂ (λ h t. h ∷ t) first w.split }
 
-pub first_of : (scale step : ℕ) (input : List ℕ) (runs later : List Run) → AreFirst scale step input (runs ++ later) → AreFirst scale step input runs
+pub first_of : (scale step : ℕ) (input : List ℕ) (runs later : List Run) → AreFirst scale step input (runs ++ later)
+    → AreFirst scale step input runs
 first_of scale step input runs later are = elim are.ended [
   | inl ended ↦
       let f = first_rows ended.1 runs later refl in
@@ -219,7 +253,14 @@ first_of scale step input runs later are = elim are.ended [
         cases : (behind : Rows) → are.rows ++ None ∷ [] ≡ f.first ++ behind → AreFirst scale step input runs
         cases [] split =
             let P : Rows → Type 0 = λ r. Ended step r runs in
-            record { front = are.front; rest = are.rest; early = are.early; rows = are.rows; reads = are.reads; ended = inr (stops, subst P (sym (split ∙ append-nil f.first)) f.ended) }
+            record {
+              front = are.front;
+              rest = are.rest;
+              early = are.early;
+              rows = are.rows;
+              reads = are.reads;
+              ended = inr (stops, subst P (sym (split ∙ append-nil f.first)) f.ended);
+            }
         cases (row ∷ behind) split =
             let w = without_last are.rows None f.first row behind split in
             within_rows scale step input are.front are.rest are.rows runs are.early are.reads f.first w.others w.split f.ended

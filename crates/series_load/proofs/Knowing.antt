@@ -1,5 +1,6 @@
 -- The series of a name.
-use Rattle.std.proofs.Common.{◌≡◌, ◌≢◌, ℕ, ◌<◌, List, [], length, Option, None, Some, Result, Ok, Err, OnOk, IfErr, IfSome, refl, subst, inl, sym, ◌∙◌, arith}
+use Rattle.std.proofs.Common.{◌≡◌, ◌≢◌, ℕ, ◌<◌, List, [], length, Option, None, Some, Result, Ok, Err, OnOk, IfErr, IfSome, refl, subst}
+use Rattle.std.proofs.Common.{inl, sym, ◌∙◌, arith}
 use Rattle.std.specs.Prelude.{◌↔◌, IfOk, IsErrAnd, MatchOption, slice_get}
 use Rattle.block_disk.specs.View.{Image, View}
 use Rattle.series_book.specs.declared.one_series.Series.{Series}
@@ -92,7 +93,12 @@ unstarted total name book series o e (Ok count) at is none some = absurd is
 unstarted total name book series o e (Err x) at is none some =
     let E : End → Type 0 = λ y. Stopped total name book series o o y at at in
     subst E (sym (is ∙ none))
-    (record { costs = record { runs = []; first = first_none series o; costs = costs_none 0 at }; ends = no_ends o; some = some; moments = passes_none at (IsAfterSome total name book series o) (Quiet at) })
+    (record {
+      costs = record { runs = []; first = first_none series o; costs = costs_none 0 at };
+      ends = no_ends o;
+      some = some;
+      moments = passes_none at (IsAfterSome total name book series o) (Quiet at);
+    })
   where
     no_ends : (i : Option (List ℕ)) → IfSome i (λ input. EndsLoad total name book series input o at.image NoMemory)
     no_ends None = tt
@@ -142,7 +148,8 @@ stored_line catalog name id info scale low named stored same input end is = tt
 pub at_bad_of : (catalog : List StoredSeries) (name : List ℕ) (o : Option (List ℕ)) (id : ℕ) (info : SeriesInfo) (scale : ℕ)
     (result : Result ℕ End) → id < length catalog → IsNamedAt catalog name id
     → ((one : StoredSeries) → slice_get catalog id ≡ Some one → IsStoredInfo one info) → scale ≡ info.scale
-    → IfErr result (λ e. IfSome o (λ input. EndsAtBad scale input e)) → IfErr result (λ e. IfSome o (λ input. EndsAtBadOf catalog name input e))
+    → IfErr result (λ e. IfSome o (λ input. EndsAtBad scale input e))
+    → IfErr result (λ e. IfSome o (λ input. EndsAtBadOf catalog name input e))
 at_bad_of catalog name o id info scale (Ok count) low named stored same line = tt
 at_bad_of catalog name None id info scale (Err e) low named stored same line = tt
 at_bad_of catalog name (Some input) id info scale (Err e) low named stored same line =
@@ -167,7 +174,8 @@ read_of catalog name (Some input) id info scale (Ok count) low named stored same
     }
 
 -- no line was read
-pub no_line : (catalog : List StoredSeries) (name : List ℕ) (o : Option (List ℕ)) → IfSome o (λ input. EndsAtBadOf catalog name input UnknownSeries)
+pub no_line : (catalog : List StoredSeries) (name : List ℕ) (o : Option (List ℕ))
+    → IfSome o (λ input. EndsAtBadOf catalog name input UnknownSeries)
 no_line catalog name None = tt
 no_line catalog name (Some input) = tt
 

@@ -1,5 +1,6 @@
 -- What a load has done, by what a run of lines says.
-use Rattle.std.proofs.Common.{◌≡◌, ◌≢◌, ◌∙◌, ℕ, ◌+◌, ◌^◌, ◌<◌, ◌≤◌, Bool, true, false, IsTrue, List, [], ◌∷◌, ◌++◌, length, Option, None, Some, IfSome, refl, ap, sym, subst, inl, inr, arith, append_assoc, length-append}
+use Rattle.std.proofs.Common.{◌≡◌, ◌≢◌, ◌∙◌, ℕ, ◌+◌, ◌^◌, ◌<◌, ◌≤◌, Bool, true, false, IsTrue, List, [], ◌∷◌, ◌++◌, length, Option, None}
+use Rattle.std.proofs.Common.{Some, IfSome, refl, ap, sym, subst, inl, inr, arith, append_assoc, length-append}
 use Rattle.std.specs.List.{filter, after_first}
 use Rattle.std.proofs.lemmas.List.{append-nil}
 use Rattle.std.proofs.lemmas.List.Elements.{filter-append}
@@ -110,9 +111,11 @@ pub record Reached (held : Held) (given : List Given) (behind : Held) : Type 0 w
   pub behind_is : behind ≡ moved held book waiting first open_run points asked
 
 -- runs end, and then others
-split_then : (was ends runs done waiting done' waiting' : List Run) → was ++ ends ≡ done ++ waiting → waiting ++ runs ≡ done' ++ waiting' → was ++ (ends ++ runs) ≡ (done ++ done') ++ waiting'
+split_then : (was ends runs done waiting done' waiting' : List Run) → was ++ ends ≡ done ++ waiting → waiting ++ runs ≡ done' ++ waiting'
+    → was ++ (ends ++ runs) ≡ (done ++ done') ++ waiting'
 split_then was ends runs done waiting done' waiting' first second =
-    sym (append_assoc was ends runs) ∙ ap (λ l. l ++ runs) first ∙ append_assoc done waiting runs ∙ ap (λ l. done ++ l) second ∙ sym (append_assoc done done' waiting')
+    sym (append_assoc was ends runs) ∙ ap (λ l. l ++ runs) first ∙ append_assoc done waiting runs ∙ ap (λ l. done ++ l) second
+    ∙ sym (append_assoc done done' waiting')
 
 reached : (given : List Given) (held : Held) (text : List ℕ) (behind : Held) → Carries LoadDoes held given text behind
     → Reached held given behind
@@ -138,7 +141,8 @@ reached (Line at None ∷ later) held text behind follows = absurd follows.does
 reached (Line at (Some line) ∷ later) held text behind follows =
     let did = follows.does in
     let P : Held → Type 0 = λ h. Reached h later behind in
-    let rest : Reached (moved held did.book did.waiting did.first did.open_run did.points (held.asked + length did.done)) later behind = subst P did.behind_is
+    let rest : Reached (moved held did.book did.waiting did.first did.open_run did.points (held.asked + length did.done)) later
+    behind = subst P did.behind_is
     (reached later follows.between follows.more behind follows.others) in
     let asked_is : rest.asked ≡ (held.asked + length did.done) + length rest.done = rest.asked_is in
     record {
@@ -165,7 +169,8 @@ reached (Line at (Some line) ∷ later) held text behind follows =
 reached (Pause ∷ later) held text behind follows =
     let did = follows.does in
     let P : Held → Type 0 = λ h. Reached h later behind in
-    let rest : Reached (moved held did.book [] held.first held.open_run held.points (held.asked + length held.waiting)) later behind = subst P did.behind_is
+    let rest : Reached (moved held did.book [] held.first held.open_run held.points (held.asked + length held.waiting)) later
+    behind = subst P did.behind_is
     (reached later follows.between follows.more behind follows.others) in
     let asked_is : rest.asked ≡ (held.asked + length held.waiting) + length rest.done = rest.asked_is in
     record {
@@ -186,7 +191,8 @@ reached (Pause ∷ later) held text behind follows =
 reached (lines_given.End ∷ later) held text behind follows =
     let did = follows.does in
     let P : Held → Type 0 = λ h. Reached h later behind in
-    let rest : Reached (moved held did.book [] held.first None held.points (held.asked + length (held.waiting ++ closed held.open_run))) later behind = subst P did.behind_is
+    let rest : Reached (moved held did.book [] held.first None held.points (held.asked + length (held.waiting ++ closed held.open_run)))
+    later behind = subst P did.behind_is
     (reached later follows.between follows.more behind follows.others) in
     let asked_is : rest.asked ≡ (held.asked + length (held.waiting ++ closed held.open_run)) + length rest.done = rest.asked_is in
     record {
@@ -201,7 +207,8 @@ reached (lines_given.End ∷ later) held text behind follows =
       asked_is = omega (arith, asked_is, length-append (held.waiting ++ closed held.open_run) rest.done);
       split = split_then held.waiting (closed held.open_run) rest.runs (held.waiting ++ closed held.open_run) [] rest.done rest.waiting
           (sym (append-nil (held.waiting ++ closed held.open_run))) rest.split;
-      loads = loads_then held.total held.name held.book did.book rest.book (held.waiting ++ closed held.open_run) rest.done did.loads rest.loads;
+      loads = loads_then held.total held.name held.book did.book rest.book
+          (held.waiting ++ closed held.open_run) rest.done did.loads rest.loads;
       reads = λ only. absurd only;
       behind_is = rest.behind_is;
     }
@@ -297,7 +304,8 @@ module _ (scale step : ℕ) (input : List ℕ) (ended : List Run) (first : Bool)
   bad_text text next some says = text_early scale h.front h.rest text first h.read.some_yet next some says
 
   -- those that end with the next line
-  line_first : (at : ℕ) (text : List ℕ) (ends : List Run) (first' : Bool) (new : Option Run) (points' : ℕ) → at ≡ length h.front → NextOf h.front h.rest (Some text)
+  line_first : (at : ℕ) (text : List ℕ) (ends : List Run) (first' : Bool) (new : Option Run) (points' : ℕ) → at ≡ length h.front
+      → NextOf h.front h.rest (Some text)
       → LineAdds scale step at text first open_run points ends first' new points' → AreFirst scale step input (ended ++ ends)
   line_first at text ends first' new points' at_is next adds =
       let A : ℕ → Type 0 = λ a. LineAdds scale step a text first open_run points ends first' new points' in
@@ -363,7 +371,8 @@ module _ (total : ℕ) (name : List ℕ) (book : List Series) (series : Series) 
     ended_is : (more : List Run) → r.runs ++ more ≡ r.done ++ (r.waiting ++ more)
     ended_is more = ap (λ l. l ++ more) r.split ∙ append_assoc r.done r.waiting more
 
-    some_first : (o : Option (List ℕ)) (runs later : List Run) → AreFirstOf series.scale series.step o (runs ++ later) → AreFirstOf series.scale series.step o runs
+    some_first : (o : Option (List ℕ)) (runs later : List Run) → AreFirstOf series.scale series.step o (runs ++ later)
+        → AreFirstOf series.scale series.step o runs
     some_first None runs later first = tt
     some_first (Some input) runs later first = first_of series.scale series.step input runs later first
 
@@ -378,12 +387,14 @@ module _ (total : ℕ) (name : List ℕ) (book : List Series) (series : Series) 
         let P : List Run → Type 0 = AreFirstOf series.scale series.step o in
         some_first o r.done r.waiting (subst P r.split (ended_first o are))
 
-    as_waiting : (input : List ℕ) (runs : List Run) → runs ≡ r.waiting → AreFirst series.scale series.step input r.runs → AreFirst series.scale series.step input (r.done ++ runs)
+    as_waiting : (input : List ℕ) (runs : List Run) → runs ≡ r.waiting → AreFirst series.scale series.step input r.runs
+        → AreFirst series.scale series.step input (r.done ++ runs)
     as_waiting input runs waits first =
         let P : List Run → Type 0 = AreFirst series.scale series.step input in
         subst P (r.split ∙ ap (λ l. r.done ++ l) (sym waits)) first
 
-    with_open : (input : List ℕ) (runs : List Run) → runs ≡ r.waiting ++ closed r.open_run → AreFirst series.scale series.step input (r.runs ++ closed r.open_run) → AreFirst series.scale series.step input (r.done ++ runs)
+    with_open : (input : List ℕ) (runs : List Run) → runs ≡ r.waiting ++ closed r.open_run
+        → AreFirst series.scale series.step input (r.runs ++ closed r.open_run) → AreFirst series.scale series.step input (r.done ++ runs)
     with_open input runs are first =
         let P : List Run → Type 0 = AreFirst series.scale series.step input in
         subst P (ended_is (closed r.open_run) ∙ ap (λ l. r.done ++ l) (sym are)) first
@@ -404,12 +415,14 @@ module _ (total : ℕ) (name : List ℕ) (book : List Series) (series : Series) 
             | inl line ↦
                 let P : List Run → Type 0 = AreFirst series.scale series.step input in
                 subst P (ended_is line.ends ∙ ap (λ l. r.done ++ l) (sym line.runs_are))
-                (line_first series.scale series.step input r.runs r.first r.open_run r.points h at text line.ends line.first' line.new line.points' b.next_is.0 next line.adds)
+                (line_first series.scale series.step input r.runs r.first r.open_run r.points h at text line.ends line.first' line.new
+                line.points' b.next_is.0 next line.adds)
             | inr bad ↦ with_open input runs bad.runs_are (stop_first series.scale series.step input r.runs r.first r.open_run r.points h
                 (inr (bad_text series.scale series.step input r.runs r.first r.open_run r.points h text next bad.some bad.bad)))
           ]
         ]
-    next_first Pause input b runs are = as_waiting input runs are (heard_first series.scale series.step input r.runs r.first r.open_run r.points (heard input b.first))
+    next_first Pause input b runs are = as_waiting input runs are
+        (heard_first series.scale series.step input r.runs r.first r.open_run r.points (heard input b.first))
     next_first lines_given.End input b runs are =
         let h = heard input b.first in
         with_open input runs are (stop_first series.scale series.step input r.runs r.first r.open_run r.points h (inl b.next_is))
@@ -431,7 +444,8 @@ module _ (total : ℕ) (name : List ℕ) (book : List Series) (series : Series) 
         { runs = r.done ++ runs; first = first; after = after_then total name book r.book r.done runs image r.loads after }
 
     -- what the sets cost that were done, and those that were tried behind them
-    first_costs : (o : Option (List ℕ)) (old new : View) → spent ≡ spent_by old → AreFirstOf series.scale series.step o r.done → Costs r.asked spent new
+    first_costs : (o : Option (List ℕ)) (old new : View) → spent ≡ spent_by old → AreFirstOf series.scale series.step o r.done
+        → Costs r.asked spent new
         → CostsFirst series o old new
     first_costs o old new same first costs =
         let asked_is : r.asked ≡ length r.done = omega (arith, r.asked_is) in
@@ -439,7 +453,8 @@ module _ (total : ℕ) (name : List ℕ) (book : List Series) (series : Series) 
         let N : ℕ → Type 0 = λ n. Costs n spent new in
         record { runs = r.done; first = first; costs = subst S same (subst N asked_is costs) }
 
-    next_costs : (o : Option (List ℕ)) (runs : List Run) (old new : View) → spent ≡ spent_by old → AreFirstOf series.scale series.step o (r.done ++ runs)
+    next_costs : (o : Option (List ℕ)) (runs : List Run) (old new : View) → spent ≡ spent_by old
+        → AreFirstOf series.scale series.step o (r.done ++ runs)
         → Costs (r.asked + length runs) spent new → CostsFirst series o old new
     next_costs o runs old new same first costs =
         let asked_is : r.asked + length runs ≡ length (r.done ++ runs) = omega (arith, r.asked_is, length-append r.done runs) in
@@ -477,7 +492,8 @@ module _ (total : ℕ) (name : List ℕ) (book : List Series) (series : Series) 
           };
           runs = r.runs ++ closed r.open_run;
           all = all_runs series.scale series.step input r.runs r.first r.open_run r.points h;
-          after = subst P (sym (ended_is (closed r.open_run))) (after_then total name book r.book r.done (r.waiting ++ closed r.open_run) image r.loads after);
+          after = subst P (sym (ended_is (closed r.open_run)))
+              (after_then total name book r.book r.done (r.waiting ++ closed r.open_run) image r.loads after);
         }
 
     next_bad : (it : Given) (input : List ℕ) (place : ℕ) (image : Image) → AreBefore input done.given it → BadBy there it image place
@@ -506,7 +522,8 @@ module _ (total : ℕ) (name : List ℕ) (book : List Series) (series : Series) 
     bad_some lines_given.End o place image are bad = absurd bad
 
     -- the set of a run was refused
-    refused_so : (it : Given) (input : List ℕ) (runs : List Run) (at : ℕ) (refusal : Refusal) (image : Image) → AreBefore input done.given it → RunsBy there it runs
+    refused_so : (it : Given) (input : List ℕ) (runs : List Run) (at : ℕ) (refusal : Refusal) (image : Image)
+        → AreBefore input done.given it → RunsBy there it runs
         → IsRefusedIn total name r.book runs at refusal image → IsAtRefusal total name book series input at refusal image
     refused_so it input runs at refusal image are by why =
         let P : List Run → Type 0 = AreFirst series.scale series.step input in
@@ -514,7 +531,8 @@ module _ (total : ℕ) (name : List ℕ) (book : List Series) (series : Series) 
           runs = r.done ++ why.done;
           run = why.run;
           first = first_of series.scale series.step input ((r.done ++ why.done) ++ why.run ∷ []) why.later
-              (subst P (ap (λ l. r.done ++ l) why.split ∙ sym (append_assoc r.done why.done (why.run ∷ why.later)) ∙ sym (append_assoc (r.done ++ why.done) (why.run ∷ []) why.later))
+              (subst P (ap (λ l. r.done ++ l) why.split ∙ sym (append_assoc r.done why.done (why.run ∷ why.later))
+              ∙ sym (append_assoc (r.done ++ why.done) (why.run ∷ []) why.later))
               (next_first it input are runs by));
           at_is = why.at_is;
           new = why.new;
@@ -524,24 +542,37 @@ module _ (total : ℕ) (name : List ℕ) (book : List Series) (series : Series) 
         }
 
     -- where the work stopped
-    keeps_so : (it : Given) (o : Option (List ℕ)) (runs : List Run) (image : Image) (end : End) → IfSome o (λ input. AreBefore input done.given it)
-        → RunsBy there it runs → StopsSo (BadBy there it image) total name r.book runs image end → KeepsSome total name book series o image end
+    keeps_so : (it : Given) (o : Option (List ℕ)) (runs : List Run) (image : Image) (end : End)
+        → IfSome o (λ input. AreBefore input done.given it)
+        → RunsBy there it runs → StopsSo (BadBy there it image) total name r.book runs image end
+        → KeepsSome total name book series o image end
     keeps_so it o runs image NoMemory are by why = part_so o image runs (next_firsts it o are runs by) why
     keeps_so it o runs image DiskFault are by why = tt
     keeps_so it o runs image (BadInput at) are by why = bad_some it o at image are why
     keeps_so it o runs image (Refused at number) are by why =
         let it_is = why.so in
         part_so o image runs (next_firsts it o are runs by)
-        (record { done = it_is.done; later = it_is.run ∷ it_is.later; split = it_is.split; after = record { new = it_is.new; loads = it_is.loads; stands = it_is.stands } })
+        (record {
+          done = it_is.done;
+          later = it_is.run ∷ it_is.later;
+          split = it_is.split;
+          after = record { new = it_is.new; loads = it_is.loads; stands = it_is.stands };
+        })
     keeps_so it o runs image end are by why = absurd why
 
-    ends_so : (it : Given) (input : List ℕ) (left : Option (List ℕ)) (runs : List Run) (image : Image) (end : End) → AreBefore input done.given it
-        → RunsBy there it runs → StopsSo (BadBy there it image) total name r.book runs image end → EndsLoad total name book series input left image
+    ends_so : (it : Given) (input : List ℕ) (left : Option (List ℕ)) (runs : List Run) (image : Image) (end : End)
+        → AreBefore input done.given it
+        → RunsBy there it runs → StopsSo (BadBy there it image) total name r.book runs image end
+        → EndsLoad total name book series input left image
         end
     ends_so it input left runs image NoMemory are by why = tt
     ends_so it input left runs image DiskFault are by why = tt
     ends_so it input left runs image (BadInput at) are by why = next_bad it input at image are why
-    ends_so it input left runs image (Refused at number) are by why = record { refusal = why.refusal; number_is = why.number_is; so = refused_so it input runs at why.refusal image are by why.so }
+    ends_so it input left runs image (Refused at number) are by why = record {
+      refusal = why.refusal;
+      number_is = why.number_is;
+      so = refused_so it input runs at why.refusal image are by why.so;
+    }
     ends_so it input left runs image end are by why = absurd why
 
     -- behind a pause no run waits
@@ -626,7 +657,8 @@ module _ (total : ℕ) (name : List ℕ) (book : List Series) (series : Series) 
 
   -- the input was read to its end
   module _ (IsNow : Held → Type 0) (old new : View) (same : spent ≡ spent_by old) (points : ℕ)
-      (stands : (held : Held) → IsNow held → StandsForBook new.image held.total held.book × (held.points ≡ points) × Costs held.asked held.before new)
+      (stands : (held : Held) → IsNow held → StandsForBook new.image held.total held.book × (held.points ≡ points)
+      × Costs held.asked held.before new)
       (before now : Option (List ℕ)) (pieces pieces' : ℕ) where
     abbrev All : Option (List ℕ) → Type 0
     All o = runs.Runs LoadDoes start (runs.AreAll pieces pieces') IsNow o before now
@@ -654,7 +686,11 @@ module _ (total : ℕ) (name : List ℕ) (book : List Series) (series : Series) 
         let did = last.does in
         let S : Held → Type 0 = λ b. StandsForBook new.image b.total b.book × (b.points ≡ points) × Costs b.asked b.before new in
         let is = subst S (last.others.1 ∙ did.behind_is) (stands all.done.behind all.stands) in
-        let after : IsAfter total name at.book (at.waiting ++ closed at.open_run) new.image = record { new = did.book; loads = did.loads; stands = is.0 } in
+        let after : IsAfter total name at.book (at.waiting ++ closed at.open_run) new.image = record {
+          new = did.book;
+          loads = did.loads;
+          stands = is.0;
+        } in
         let first = with_open done input (at.waiting ++ closed at.open_run) refl
         (stop_first series.scale series.step input at.runs at.first at.open_run at.points h (inl refl)) in
         let A : List Run → Type 0 = λ l. IsAfter total name book l new.image in (
@@ -663,7 +699,8 @@ module _ (total : ℕ) (name : List ℕ) (book : List Series) (series : Series) 
             reads = record { begins = f.begins; table = h.read.table };
             runs = at.runs ++ closed at.open_run;
             all = all_runs series.scale series.step input at.runs at.first at.open_run at.points h;
-            after = subst A (sym (ended_is done (closed at.open_run))) (after_then total name book at.book at.done (at.waiting ++ closed at.open_run) new.image at.loads after);
+            after = subst A (sym (ended_is done (closed at.open_run)))
+                (after_then total name book at.book at.done (at.waiting ++ closed at.open_run) new.image at.loads after);
             counted = sym is.1 ∙ h.read.counted;
           },
           ended_so done (Some input) new.image (at.waiting ++ closed at.open_run) first after,
@@ -677,11 +714,13 @@ module _ (total : ℕ) (name : List ℕ) (book : List Series) (series : Series) 
       tt,
       some_so all.done None new.image tt
           (transport all.done (λ h. StandsForBook new.image h.total h.book) (stands all.done.behind all.stands).0),
-      first_costs all.done None old new same tt (transport all.done (λ h. Costs h.asked h.before new) (stands all.done.behind all.stands).2),
+      first_costs all.done None old new same tt (transport all.done (λ h. Costs h.asked h.before new)
+          (stands all.done.behind all.stands).2),
     )
     loaded_so (Some input) within all = loaded_both input within all
 
-  pub finished_so : (told : Type 0) (loader : Loader) (o before now : Option (List ℕ)) (pieces pieces' : ℕ) (old new : View) → spent ≡ spent_by old → since ≡ old.clock
+  pub finished_so : (told : Type 0) (loader : Loader) (o before now : Option (List ℕ)) (pieces pieces' : ℕ) (old new : View)
+      → spent ≡ spent_by old → since ≡ old.clock
       → count ≡ sent_now old → IfSome o (λ input. length input ≤ 2 ^ 32) → runs.Runs LoadDoes start
       (runs.AreAll pieces pieces') (StandsSo told new loader) o before now
       → Since old new (runs.IsAhead LoadDoes (λ held i. StandsForBook i held.total held.book) LoadLeaves start o before (sent_now old))
@@ -741,7 +780,8 @@ module _ (total : ℕ) (name : List ℕ) (book : List Series) (series : Series) 
 
 -- before the first line
 pub start_stands : (told : Type 0) (total : ℕ) (book : List Series) (series : Series) (loader : Loader) (at : View) → told
-    → StandsForBook at.image total book → loader.run.values.items ≡ [] → loader.kept.sets.items ≡ [] → loader.kept.ats.items ≡ [] → loader.first ≡ true → loader.points ≡ 0
+    → StandsForBook at.image total book → loader.run.values.items ≡ [] → loader.kept.sets.items ≡ [] → loader.kept.ats.items ≡ []
+    → loader.first ≡ true → loader.points ≡ 0
     → loader.step ≡ series.step → loader.scale ≡ series.scale
     → StandsSo told at loader (start total loader.name book series at.clock (sent_now at) (spent_by at))
 start_stands told total book series loader at is stands none sets ats first points step scale = record {

@@ -3,14 +3,16 @@ use Rattle.std.proofs.Common.{◌≡◌, ℕ, List, [], ◌∷◌, ◌++◌, Opt
 use Rattle.series_load.specs.Fronts.{PlacedLine}
 use Rattle.series_load.specs.Rows.{Reading, IsRow, AreRows, IsHeader, AreTable}
 
-rows_more : (scale : ℕ) (lines : List PlacedLine) (rows : List (Option Reading)) (line : PlacedLine) (row : Option Reading) → AreRows scale lines rows → IsRow scale line row → AreRows scale (lines ++ line ∷ []) (rows ++ row ∷ [])
+rows_more : (scale : ℕ) (lines : List PlacedLine) (rows : List (Option Reading)) (line : PlacedLine) (row : Option Reading)
+    → AreRows scale lines rows → IsRow scale line row → AreRows scale (lines ++ line ∷ []) (rows ++ row ∷ [])
 rows_more scale [] [] line row are is = (is, tt)
 rows_more scale [] (r ∷ rs) line row are is = absurd are
 rows_more scale (l ∷ ls) [] line row are is = absurd are
 rows_more scale (l ∷ ls) (r ∷ rs) line row are is = (are.0, rows_more scale ls rs line row are.1 is)
 
 -- a row more
-pub table_more : (scale : ℕ) (lines : List PlacedLine) (rows : List (Option Reading)) (line : PlacedLine) (row : Option Reading) → AreTable scale lines rows → IsRow scale line row → AreTable scale (lines ++ line ∷ []) (rows ++ row ∷ [])
+pub table_more : (scale : ℕ) (lines : List PlacedLine) (rows : List (Option Reading)) (line : PlacedLine) (row : Option Reading)
+    → AreTable scale lines rows → IsRow scale line row → AreTable scale (lines ++ line ∷ []) (rows ++ row ∷ [])
 table_more scale lines rows line row (inl are) is = inl (rows_more scale lines rows line row are is)
 table_more scale lines rows line row (inr has) is = inr (record {
   header = has.header;

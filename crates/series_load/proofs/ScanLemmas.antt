@@ -1,5 +1,6 @@
 -- How far lines were read, whatever the pages are.
-use Rattle.std.proofs.Common.{◌≡◌, ◌∙◌, ℕ, ◌<◌, Bool, true, false, List, [], ◌∷◌, ◌++◌, length, Option, None, Some, IfSome, refl, ap, sym, subst, inl, inr, append_assoc, arith}
+use Rattle.std.proofs.Common.{◌≡◌, ◌∙◌, ℕ, ◌<◌, Bool, true, false, List, [], ◌∷◌, ◌++◌, length, Option, None, Some, IfSome, refl, ap, sym}
+use Rattle.std.proofs.Common.{subst, inl, inr, append_assoc, arith}
 use Rattle.std.specs.Prelude.{count_by, is_some}
 use Rattle.std.proofs.lemmas.List.{append-nil}
 use Rattle.block_disk.specs.View.{View}
@@ -16,14 +17,16 @@ use Rattle.run_ends.specs.declared.ending.End.{End}
 use Rattle.run_ends.specs.declared.ending.End.TheVariants.{BadInput}
 use Rattle.series_load.specs.Ends.{EndsAtBad, IsBadLine, IsRead}
 use Rattle.series_load.specs.Fronts.{PlacedLine, told}
-use Rattle.series_load.specs.Loading.{IsScanned, Loading, LoadingDoes, LoadingStops, Booked, Scan, ScanDoes, ScanStops, Scanned, StandsFor, further, scan_of}
+use Rattle.series_load.specs.Loading.{IsScanned, Loading, LoadingDoes, LoadingStops, Booked, Scan, ScanDoes, ScanStops, Scanned, StandsFor}
+use Rattle.series_load.specs.Loading.{further, scan_of}
 use Rattle.series_load.specs.Rows.{AreTable, BadEarly, Reading}
 use Rattle.series_load.specs.Steps.{BlamesLine, BlamesNone, BlamesText, LineReads, SaysSo, if_told, points_with}
 use Rattle.series_load.specs.declared.loader.Loader.{Loader}
 use Rattle.series_load.specs.declared.said.Said.{Said}
 use Rattle.series_load.specs.declared.said.Said.TheVariants.{Header, Point, Gap, Bad}
 use Rattle.series_load.proofs.LineLemmas.{counted_more, none_behind, placed, some_behind, told_none, told_one}
-use Rattle.series_load.proofs.Reached.{AreLines, NextOf, lines_unpaused, long_early, next_of, only_lines, text_early, told_given, told_of, told_unpaused}
+use Rattle.series_load.proofs.Reached.{AreLines, NextOf, lines_unpaused, long_early, next_of, only_lines, text_early, told_given, told_of}
+use Rattle.series_load.proofs.Reached.{told_unpaused}
 use Rattle.series_load.proofs.RowLemmas.{no_rows, table_header, table_more}
 
 -- the lines are rows, it is known whether there is one, and so many of them have a reading
@@ -128,7 +131,8 @@ read_on (Line at (Some line) ∷ later) scan text behind all =
       reads = λ only before skim.
           let L : List PlacedLine → Type 0 = λ l. Skimmed scan.scale l rest.first rest.points in
           subst L (append_assoc before (if_told at (Some line)) (told_of later))
-          (rest.reads only (before ++ if_told at (Some line)) (line_skims scan.scale at line scan.first one.2.first scan.points one.2.points before one.2.reads skim));
+          (rest.reads only (before ++ if_told at (Some line))
+          (line_skims scan.scale at line scan.first one.2.first scan.points one.2.points before one.2.reads skim));
     }
 read_on (Pause ∷ later) scan text behind all =
     let one = scanned_of (λ next. ScanDoes scan Pause next) all.between all.does.1 in

@@ -1,5 +1,6 @@
 -- How a load ends, and what it has done then.
-use Rattle.std.specs.Prelude.{◌≡◌, ℕ, ◌-◌, ◌^◌, ◌<◌, ◌≤◌, List, [], ◌∷◌, ◌++◌, length, take, slice_get, Option, Some, Result, Ok, Err, count_by, is_some, IfSome, ⊤}
+use Rattle.std.specs.Prelude.{◌≡◌, ℕ, ◌-◌, ◌^◌, ◌<◌, ◌≤◌, List, [], ◌∷◌, ◌++◌, length, take, slice_get, Option, Some, Result, Ok, Err}
+use Rattle.std.specs.Prelude.{count_by, is_some, IfSome, ⊤}
 use Rattle.block_disk.specs.Counts.{HasRisen}
 use Rattle.block_disk.specs.View.{Image, View, Passes}
 use Rattle.gate_pages.specs.Pages.{Quiet}
@@ -17,10 +18,12 @@ use Rattle.series_load.specs.Fronts.{told}
 use Rattle.series_load.specs.Runs.{Run, Ended, AllRuns, AreFirst}
 use Rattle.series_load.specs.Sets.{set_of, Loads, IsAfter, IsAfterSome, OfRefusal, AreFirstOf}
 use Rattle.run_ends.specs.declared.ending.End.{End}
-use Rattle.run_ends.specs.declared.ending.End.TheVariants.{NoMemory, ReadFault, DiskFault, DamagedPage, BadInput, InputTooLong, UnknownSeries, Refused}
+use Rattle.run_ends.specs.declared.ending.End.TheVariants.{NoMemory, ReadFault, DiskFault, DamagedPage, BadInput, InputTooLong}
+use Rattle.run_ends.specs.declared.ending.End.TheVariants.{UnknownSeries, Refused}
 
 -- all lines are rows, the sets of all runs were done, and so many rows have a reading
-pub record IsLoaded (total : ℕ) (name : List ℕ) (book : List Series) (series : Series) (input : List ℕ) (count : ℕ) (image : Image) : Type 0 where
+pub record IsLoaded (total : ℕ) (name : List ℕ) (book : List Series) (series : Series) (input : List ℕ) (count : ℕ)
+    (image : Image) : Type 0 where
   pub rows : List (Option Reading)
   pub reads : ReadsRows series.scale input input [] rows
   pub runs : List Run
@@ -39,14 +42,16 @@ pub record IsBadLine (scale : ℕ) (input : List ℕ) (at : ℕ) : Type 0 where
   pub at_is : at ≡ length front
 
 -- the first bad line is the one at this offset, and the sets of all runs before it were done
-pub record IsAtBad (total : ℕ) (name : List ℕ) (book : List Series) (series : Series) (input : List ℕ) (at : ℕ) (image : Image) : Type 0 where
+pub record IsAtBad (total : ℕ) (name : List ℕ) (book : List Series) (series : Series) (input : List ℕ) (at : ℕ)
+    (image : Image) : Type 0 where
   pub line : IsBadLine series.scale input at
   pub runs : List Run
   pub all : AllRuns series.step line.rows runs
   pub after : IsAfter total name book runs image
 
 -- The sets of some first runs were done. The run behind them begins at this offset, and its set is refused so.
-pub record IsAtRefusal (total : ℕ) (name : List ℕ) (book : List Series) (series : Series) (input : List ℕ) (at : ℕ) (refusal : Refusal) (image : Image) : Type 0 where
+pub record IsAtRefusal (total : ℕ) (name : List ℕ) (book : List Series) (series : Series) (input : List ℕ) (at : ℕ) (refusal : Refusal)
+    (image : Image) : Type 0 where
   pub runs : List Run
   pub run : Run
   pub first : AreFirst series.scale series.step input (runs ++ run ∷ [])
@@ -147,14 +152,16 @@ pub record CostsFirst (series : Series) (input : Option (List ℕ)) (old new : V
 
 -- all of the input was loaded: what was done, whether or not the streams tell their bytes, and what a crash at a
 -- moment on the way leaves; no byte is sent
-pub record Finished (total : ℕ) (name : List ℕ) (book : List Series) (series : Series) (input : Option (List ℕ)) (count : ℕ) (old new : View) : Type 0 where
+pub record Finished (total : ℕ) (name : List ℕ) (book : List Series) (series : Series) (input : Option (List ℕ)) (count : ℕ)
+    (old new : View) : Type 0 where
   pub costs : CostsFirst series input old new
   pub done : IfSome input (λ bytes. IsLoaded total name book series bytes count new.image)
   pub some : IsAfterSome total name book series input new.image
   pub moments : Passes old new (IsAfterSome total name book series input) (Quiet old)
 
 -- the same, where not all of it was
-pub record Stopped (total : ℕ) (name : List ℕ) (book : List Series) (series : Series) (input left : Option (List ℕ)) (e : End) (old new : View) : Type 0 where
+pub record Stopped (total : ℕ) (name : List ℕ) (book : List Series) (series : Series) (input left : Option (List ℕ)) (e : End)
+    (old new : View) : Type 0 where
   pub costs : CostsFirst series input old new
   pub ends : IfSome input (λ bytes. EndsLoad total name book series bytes left new.image e)
   pub some : KeepsSome total name book series input new.image e

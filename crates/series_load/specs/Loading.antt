@@ -8,7 +8,8 @@ use Rattle.stored_book.specs.Standing.{StandsForBook}
 use Rattle.series_load.specs.Costs.{Costs, Spent}
 use Rattle.series_load.specs.Runs.{Run}
 use Rattle.series_load.specs.Sets.{IsPartDone, Loads}
-use Rattle.series_load.specs.Steps.{BlamesLine, BlamesNone, BlamesText, IsAtLine, IsAtText, KeepsRuns, LineAdds, LineReads, LineRuns, StopsSo, closed}
+use Rattle.series_load.specs.Steps.{BlamesLine, BlamesNone, BlamesText, IsAtLine, IsAtText, KeepsRuns, LineAdds, LineReads, LineRuns}
+use Rattle.series_load.specs.Steps.{StopsSo, closed}
 use Rattle.run_ends.specs.declared.ending.End.{End}
 use Rattle.run_ends.specs.declared.ending.End.TheVariants.{DiskFault}
 use Rattle.series_load.specs.declared.loader.Loader.{Loader}

@@ -54,8 +54,10 @@ EndsAt step run behind = (length (readings run) ≡ 256) ⊎ Breaks step run beh
 pub data Cut (step : ℕ) : List (Option Reading) → List Run → Option Run → Type 0 where
   nothing : Cut step [] [] None
   still : (run : Run) → IsRun step run → length (readings run) < 256 → Cut step (rows_of run) [] (Some run)
-  gap : (rows : List (Option Reading)) (runs : List Run) (open_run : Option Run) → Cut step rows runs open_run → Cut step (None ∷ rows) runs open_run
-  whole : (run : Run) (rows : List (Option Reading)) (runs : List Run) (open_run : Option Run) → IsRun step run → EndsAt step run rows → Cut step rows runs open_run → Cut step (rows_of run ++ rows) (run ∷ runs) open_run
+  gap : (rows : List (Option Reading)) (runs : List Run) (open_run : Option Run) → Cut step rows runs open_run
+      → Cut step (None ∷ rows) runs open_run
+  whole : (run : Run) (rows : List (Option Reading)) (runs : List Run) (open_run : Option Run) → IsRun step run → EndsAt step run rows
+      → Cut step rows runs open_run → Cut step (rows_of run ++ rows) (run ∷ runs) open_run
 
 -- the runs that have ended within the rows
 abbrev pub Ended : ℕ → List (Option Reading) → List Run → Type 0

@@ -33,7 +33,8 @@ pub record AreEdits (sets : List Edit) (ats : List ℕ) : Type 0 where
 -- the sets of the runs are accepted one by one, and make one book the other
 abbrev pub Loads : ℕ → List ℕ → List Series → List Run → List Series → Type 0
 Loads total name old [] new = new ≡ old
-Loads total name old (run ∷ later) new = (edited : Edited) × (apply old total (set_of name run) ≡ Ok edited) × Loads total name edited.book later new
+Loads total name old (run ∷ later) new = (edited : Edited) × (apply old total (set_of name run) ≡ Ok edited)
+    × Loads total name edited.book later new
 
 -- the pages stand for the book after the sets of these runs
 pub record IsAfter (total : ℕ) (name : List ℕ) (book : List Series) (runs : List Run) (image : Image) : Type 0 where
@@ -49,7 +50,8 @@ pub record IsPartDone (total : ℕ) (name : List ℕ) (book : List Series) (runs
   pub after : IsAfter total name book done image
 
 -- The sets of some first of the runs were done. The run behind them begins at this offset, and its set is refused so.
-pub record IsRefusedIn (total : ℕ) (name : List ℕ) (book : List Series) (runs : List Run) (at : ℕ) (refusal : Refusal) (image : Image) : Type 0 where
+pub record IsRefusedIn (total : ℕ) (name : List ℕ) (book : List Series) (runs : List Run) (at : ℕ) (refusal : Refusal)
+    (image : Image) : Type 0 where
   pub done : List Run
   pub run : Run
   pub later : List Run
@@ -72,7 +74,8 @@ AreFirstOf scale step None runs = Unit {0}
 AreFirstOf scale step (Some input) runs = AreFirst scale step input runs
 
 -- the pages stand for the book after the sets of some first runs of the input
-pub record IsAfterSome (total : ℕ) (name : List ℕ) (book : List Series) (series : Series) (input : Option (List ℕ)) (image : Image) : Type 0 where
+pub record IsAfterSome (total : ℕ) (name : List ℕ) (book : List Series) (series : Series) (input : Option (List ℕ))
+    (image : Image) : Type 0 where
   pub runs : List Run
   pub first : AreFirstOf series.scale series.step input runs
   pub after : IsAfter total name book runs image

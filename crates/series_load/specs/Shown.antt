@@ -26,17 +26,20 @@ KeepsSo loader waiting open_run = KeepsRuns loader.name waiting open_run loader.
 -- it takes the line at this offset, whose text is this one, and keeps the sets of the runs that end
 abbrev pub TookLine : ℕ → List ℕ → List Run → Option Run → Loader → Loader → Type 0
 TookLine at text waiting open_run before after =
-    Took (λ ends still. LineAdds before.scale before.step at text before.first open_run before.points ends after.first still after.points) before.name waiting after.kept after.run
+    Took (λ ends still. LineAdds before.scale before.step at text before.first open_run before.points ends after.first still after.points)
+    before.name waiting after.kept after.run
 
 module _ {P : Type 0} {g : Ghosts P} where
   -- the pages of a store with these streams, and its numbers
   abbrev pub side_of : streams.Ghosts P → Store P g → Side
   side_of beside it = side (shown.IsTold it) (shown.view it) (shown.under it) (shown.total it) (length (shown.catalog it))
-      (beside.left (shown.pages it)) (beside.sent (shown.pages it)) (beside.read_faults (shown.pages it)) (beside.send_faults (shown.pages it)) (beside.pieces (shown.pages it))
+      (beside.left (shown.pages it)) (beside.sent (shown.pages it)) (beside.read_faults (shown.pages it))
+      (beside.send_faults (shown.pages it)) (beside.pieces (shown.pages it))
 
   -- what calls move, whatever the pages are
   abbrev pub CarriesOn : Store P g → Store P g → Type 0
-  CarriesOn old new = Carries (shown.IsTold old) (shown.IsTold new) (shown.view old) (shown.view new) (shown.under old) (shown.under new) (shown.total old) (shown.total new) (length (shown.catalog old)) (length (shown.catalog new))
+  CarriesOn old new = Carries (shown.IsTold old) (shown.IsTold new) (shown.view old) (shown.view new) (shown.under old) (shown.under new)
+      (shown.total old) (shown.total new) (length (shown.catalog old)) (length (shown.catalog new))
 
   -- why a set wasn't done, whatever the pages are
   abbrev pub FailsFor : End → Store P g → Store P g → Type 0
@@ -44,23 +47,28 @@ module _ {P : Type 0} {g : Ghosts P} where
 
   -- why a load ended, whatever the pages are
   abbrev pub EndsFor : streams.Ghosts P → End → Store P g → Store P g → Type 0
-  EndsFor beside e old new = IsLoadCause e (shown.IsTold new) (shown.total old) (shown.view old) (shown.view new) (beside.read_faults (shown.pages old)) (beside.read_faults (shown.pages new))
+  EndsFor beside e old new = IsLoadCause e (shown.IsTold new) (shown.total old) (shown.view old) (shown.view new)
+      (beside.read_faults (shown.pages old)) (beside.read_faults (shown.pages new))
 
   -- so of each book that the pages stand for, and the runs that the loader keeps
   abbrev pub ForRuns : Store P g → Loader → (ℕ → List Series → List Run → Option Run → Type 0) → Type 0
-  ForRuns it loader IsSo = (total : ℕ) (book : List Series) (waiting : List Run) (open_run : Option Run) → shown.IsTold it → StandsForBook (shown.image it) total book → KeepsSo loader waiting open_run → IsSo total book waiting open_run
+  ForRuns it loader IsSo = (total : ℕ) (book : List Series) (waiting : List Run) (open_run : Option Run) → shown.IsTold it
+      → StandsForBook (shown.image it) total book → KeepsSo loader waiting open_run → IsSo total book waiting open_run
 
   -- or the runs of these sets
   abbrev pub ForSets : Store P g → List Edit → List ℕ → (ℕ → List ℕ → List Series → List Run → Type 0) → Type 0
-  ForSets it sets ats IsSo = (total : ℕ) (name : List ℕ) (book : List Series) (runs : List Run) → shown.IsTold it → StandsForBook (shown.image it) total book → AreSets name runs sets ats → IsSo total name book runs
+  ForSets it sets ats IsSo = (total : ℕ) (name : List ℕ) (book : List Series) (runs : List Run) → shown.IsTold it
+      → StandsForBook (shown.image it) total book → AreSets name runs sets ats → IsSo total name book runs
 
   -- so of each book that the pages stand for, and its series of this name
   abbrev pub ForNamed : Store P g → List ℕ → (ℕ → List Series → Series → Type 0) → Type 0
-  ForNamed it name IsSo = (total : ℕ) (book : List Series) (series : Series) → shown.IsTold it → StandsForBook (shown.image it) total book → IsNamed book name series → IsSo total book series
+  ForNamed it name IsSo = (total : ℕ) (book : List Series) (series : Series) → shown.IsTold it → StandsForBook (shown.image it) total book
+      → IsNamed book name series → IsSo total book series
 
   -- or a series with this step and scale
   abbrev pub ForLoaded : Store P g → Loader → (ℕ → List Series → Series → Type 0) → Type 0
-  ForLoaded it loader IsSo = (total : ℕ) (book : List Series) (series : Series) → shown.IsTold it → StandsForBook (shown.image it) total book → loader.step ≡ series.step → loader.scale ≡ series.scale → IsSo total book series
+  ForLoaded it loader IsSo = (total : ℕ) (book : List Series) (series : Series) → shown.IsTold it
+      → StandsForBook (shown.image it) total book → loader.step ≡ series.step → loader.scale ≡ series.scale → IsSo total book series
 
   -- a call does the sets of these runs, or of some first of them
   abbrev pub DoesRuns : {T : Type 0} → ℕ → List ℕ → List Series → List Run → Result T End → Store P g → Store P g → Type 0
@@ -75,10 +83,13 @@ module _ {P : Type 0} {g : Ghosts P} where
       Does {T = ℕ} (IsAtLine at total name book runs (shown.image new)) total name book runs (Err end) (shown.view old) (shown.view new)
 
   -- it takes the line at this offset, whose text is this one, where sets may be done
-  abbrev pub TakesLine : {T : Type 0} → ℕ → List ℕ → ℕ → List Series → List Run → Option Run → Result T End → Loader → Loader → Store P g → Store P g → Type 0
+  abbrev pub TakesLine : {T : Type 0} → ℕ → List ℕ → ℕ → List Series → List Run → Option Run → Result T End → Loader → Loader → Store P g
+      → Store P g → Type 0
   TakesLine at text total book waiting open_run result before after old new =
-      DoesLine before.scale before.step at text before.first before.points total before.name book waiting open_run result after.first after.points after.kept after.run (shown.view old) (shown.view new)
+      DoesLine before.scale before.step at text before.first before.points total before.name book waiting open_run result after.first
+      after.points after.kept after.run (shown.view old) (shown.view new)
 
   -- a whole input is loaded, or not all of it
   abbrev pub LoadsSo : streams.Ghosts P → List ℕ → ℕ → List Series → Series → Result ℕ End → Store P g → Store P g → Type 0
-  LoadsSo beside name total book series result old new = Outcome total name book series (beside.left (shown.pages old)) (beside.left (shown.pages new)) result (shown.view old) (shown.view new)
+  LoadsSo beside name total book series result old new = Outcome total name book series (beside.left (shown.pages old))
+      (beside.left (shown.pages new)) result (shown.view old) (shown.view new)

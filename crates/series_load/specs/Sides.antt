@@ -17,7 +17,18 @@ pub record Side : Type 1 where
   pub pieces : ℕ
 
 abbrev pub side : Type 0 → View → View → ℕ → ℕ → Option (List ℕ) → Option (List ℕ) → ℕ → ℕ → ℕ → Side
-side told view under total count left sent read_faults send_faults pieces = record { told = told; view = view; under = under; total = total; count = count; left = left; sent = sent; read_faults = read_faults; send_faults = send_faults; pieces = pieces }
+side told view under total count left sent read_faults send_faults pieces = record {
+  told = told;
+  view = view;
+  under = under;
+  total = total;
+  count = count;
+  left = left;
+  sent = sent;
+  read_faults = read_faults;
+  send_faults = send_faults;
+  pieces = pieces;
+}
 
 -- no byte is sent, no series goes away, and no count falls
 pub record Goes (old new : Side) : Type 0 where

@@ -1,5 +1,6 @@
 -- What a line more does to the run that stands open, and to the store.
-use Rattle.std.specs.Prelude.{◌≡◌, ◌≢◌, ◌⊎◌, ℕ, ℤ, ◌+◌, ◌-◌, ◌<◌, ◌≤◌, Bool, true, false, List, [], ◌∷◌, ◌++◌, length, map, take, slice_get, Option, None, Some, Result, Ok, Err, IfOk, OnOk, IfErr, count_by, is_some, ⊤}
+use Rattle.std.specs.Prelude.{◌≡◌, ◌≢◌, ◌⊎◌, ℕ, ℤ, ◌+◌, ◌-◌, ◌<◌, ◌≤◌, Bool, true, false, List, [], ◌∷◌, ◌++◌, length, map, take, slice_get}
+use Rattle.std.specs.Prelude.{Option, None, Some, Result, Ok, Err, IfOk, OnOk, IfErr, count_by, is_some, ⊤}
 use Rattle.std.specs.List.{filter}
 use Rattle.block_disk.specs.Counts.{HasRisen}
 use Rattle.block_disk.specs.View.{Image, View, Passes}
@@ -54,7 +55,8 @@ Closes old ends new = (ends ≡ closed old) × (new ≡ None)
 
 -- Behind rows that leave this run open, a row more ends these runs and leaves that run open.
 abbrev pub Adds : ℕ → Option Run → Option Reading → List Run → Option Run → Type 0
-Adds step old row ends new = (rows : List (Option Reading)) (runs : List Run) → Cut step rows runs old → Cut step (rows ++ row ∷ []) (runs ++ ends) new
+Adds step old row ends new = (rows : List (Option Reading)) (runs : List Run) → Cut step rows runs old
+    → Cut step (rows ++ row ∷ []) (runs ++ ends) new
 
 -- the same of a time with its value, in the line at this offset
 abbrev pub AddsReading : ℕ → ℕ → Pair → Option Run → List Run → Option Run → Type 0
@@ -62,7 +64,8 @@ AddsReading step at pair old ends new = Adds step old (Some (reading_at at pair)
 
 -- how far the lines have been read: whether none was yet, the runs that have ended, the one that stands open, and how
 -- many rows have a reading
-pub record Read (scale step : ℕ) (lines : List PlacedLine) (runs : List Run) (first : Bool) (open_run : Option Run) (points : ℕ) : Type 0 where
+pub record Read (scale step : ℕ) (lines : List PlacedLine) (runs : List Run) (first : Bool) (open_run : Option Run)
+    (points : ℕ) : Type 0 where
   pub rows : List (Option Reading)
   pub table : AreTable scale lines rows
   pub cut : Cut step rows runs open_run
@@ -134,7 +137,8 @@ pub record Took (G : List Run → Option Run → Type 0) (name : List ℕ) (wait
   pub keeps : KeepsRuns name (waiting ++ ends) new kept run
 
 -- a line more ends runs, and these are those that wait and those that it ends
-pub record RunsOfLine (scale step at : ℕ) (text : List ℕ) (first : Bool) (points : ℕ) (waiting : List Run) (open_run : Option Run) (runs : List Run) : Type 0 where
+pub record RunsOfLine (scale step at : ℕ) (text : List ℕ) (first : Bool) (points : ℕ) (waiting : List Run) (open_run : Option Run)
+    (runs : List Run) : Type 0 where
   pub ends : List Run
   pub first' : Bool
   pub new : Option Run
@@ -143,7 +147,8 @@ pub record RunsOfLine (scale step at : ℕ) (text : List ℕ) (first : Bool) (po
   pub runs_are : runs ≡ waiting ++ ends
 
 -- the line is bad, and these are the runs that wait and the one that stands open
-pub record RunsOfBad (scale : ℕ) (text : List ℕ) (first : Bool) (waiting : List Run) (open_run : Option Run) (runs : List Run) : Type 0 where
+pub record RunsOfBad (scale : ℕ) (text : List ℕ) (first : Bool) (waiting : List Run) (open_run : Option Run)
+    (runs : List Run) : Type 0 where
   pub some : 0 < length text
   pub bad : SaysSo scale first text Bad
   pub runs_are : runs ≡ waiting ++ closed open_run
@@ -166,14 +171,16 @@ abbrev pub NoBad : ℕ → Type 0
 NoBad at = ⊥
 
 -- What a call does where the pages stand for the book: it does the sets of these runs.
-pub record Does {T : Type 0} (B : ℕ → Type 0) (total : ℕ) (name : List ℕ) (book : List Series) (runs : List Run) (result : Result T End) (old new : View) : Type 0 where
+pub record Does {T : Type 0} (B : ℕ → Type 0) (total : ℕ) (name : List ℕ) (book : List Series) (runs : List Run) (result : Result T End)
+    (old new : View) : Type 0 where
   pub costs : Costs (length runs) (spent_by old) new
   pub done : OnOk result (IsAfter total name book runs new.image)
   pub stops : IfErr result (λ e. StopsSo B total name book runs new.image e)
   pub moments : Passes old new (IsPartDone total name book runs) (Quiet old)
 
 -- the same of so many first of the runs
-pub record DoesFirst (total : ℕ) (name : List ℕ) (book : List Series) (runs : List Run) (result : Result ℕ End) (old new : View) : Type 0 where
+pub record DoesFirst (total : ℕ) (name : List ℕ) (book : List Series) (runs : List Run) (result : Result ℕ End)
+    (old new : View) : Type 0 where
   pub costs : Costs (length runs) (spent_by old) new
   pub few : IfOk result (λ count. Costs count (spent_by old) new)
   pub done : IfOk result (λ count. IsAfter total name book (take count runs) new.image)
@@ -190,11 +197,13 @@ pub record IsLastRefused (ats : List ℕ) (answers : List (Result Outcome Refusa
 
 -- how many sets these answers are of, or the refusal of the last one
 abbrev pub Counts : List ℕ → List (Result Outcome Refusal) → Result ℕ End → Type 0
-Counts ats answers (Ok count) = (count ≡ length answers) × ((outcome : Outcome) × (slice_get answers (length answers - 1) ≡ Some (Ok outcome)))
+Counts ats answers (Ok count) = (count ≡ length answers)
+    × ((outcome : Outcome) × (slice_get answers (length answers - 1) ≡ Some (Ok outcome)))
 Counts ats answers (Err end) = IsLastRefused ats answers end
 
 -- a line was taken: runs ended, the sets of some that waited were done, and those of others are kept
-pub record LineTook (scale step at : ℕ) (text : List ℕ) (first : Bool) (points : ℕ) (waiting : List Run) (open_run : Option Run) (total : ℕ) (name : List ℕ) (book : List Series) (first' : Bool) (points' : ℕ) (kept : KeptSets) (run : OpenRun) (old new : View) : Type 0 where
+pub record LineTook (scale step at : ℕ) (text : List ℕ) (first : Bool) (points : ℕ) (waiting : List Run) (open_run : Option Run) (total : ℕ)
+    (name : List ℕ) (book : List Series) (first' : Bool) (points' : ℕ) (kept : KeptSets) (run : OpenRun) (old new : View) : Type 0 where
   pub ends : List Run
   pub still : Option Run
   pub adds : LineAdds scale step at text first open_run points ends first' still points'
@@ -244,12 +253,14 @@ pub record IsAtLine (at total : ℕ) (name : List ℕ) (book : List Series) (run
   pub after : IsAfter total name book runs image
 
 -- the same of a line that isn't too long
-pub record IsAtText (scale at : ℕ) (text : List ℕ) (first : Bool) (total : ℕ) (name : List ℕ) (book : List Series) (runs : List Run) (image : Image) (place : ℕ) : Type 0 where
+pub record IsAtText (scale at : ℕ) (text : List ℕ) (first : Bool) (total : ℕ) (name : List ℕ) (book : List Series) (runs : List Run)
+    (image : Image) (place : ℕ) : Type 0 where
   pub at_line : IsAtLine at total name book runs image place
   pub some : 0 < length text
   pub bad : SaysSo scale first text Bad
 
-module _ (scale step at : ℕ) (text : List ℕ) (first : Bool) (points total : ℕ) (name : List ℕ) (book : List Series) (waiting : List Run) (open_run : Option Run) where
+module _ (scale step at : ℕ) (text : List ℕ) (first : Bool) (points total : ℕ) (name : List ℕ) (book : List Series) (waiting : List Run)
+    (open_run : Option Run) where
   -- what a line's sets leave
   pub record LineLeaves (image : Image) : Type 0 where
     pub runs : List Run
@@ -263,7 +274,8 @@ module _ (scale step at : ℕ) (text : List ℕ) (first : Bool) (points total : 
     pub costs : Costs (length runs) (spent_by old) new
 
   -- what taking a line does
-  pub record DoesLine {T : Type 0} (result : Result T End) (first' : Bool) (points' : ℕ) (kept : KeptSets) (run : OpenRun) (old new : View) : Type 0 where
+  pub record DoesLine {T : Type 0} (result : Result T End) (first' : Bool) (points' : ℕ) (kept : KeptSets) (run : OpenRun)
+      (old new : View) : Type 0 where
     pub took : OnOk result (LineTook scale step at text first points waiting open_run total name book first' points' kept run old new)
     pub stops : IfErr result (LineStops old new)
     pub moments : Passes old new LineLeaves (Quiet old)

@@ -50,7 +50,8 @@ fn commit_some<P: Pages>(store: &mut Store<P>, sets: &[Edit], ats: &[u32]) -> Re
     requires edits { AreEdits sets.now ats.now }
     ensures some { IfOk result (λ count. 0 < count) }
     ensures most { IfOk result (λ count. count ≤ length sets.now) }
-    ensures does { loads.ForSets store.old sets.now ats.now (λ total name book runs. loads.DoesSome total name book runs result store.old store.new) }
+    ensures does { loads.ForSets store.old sets.now ats.now
+        (λ total name book runs. loads.DoesSome total name book runs result store.old store.new) }
     ensures carries { loads.CarriesOn store.old store.new }
     ensures cause { IfErr result (λ e. loads.FailsFor e store.old store.new) }
     ensures blames { IfErr result (λ e. BlamesNone e) }
@@ -72,7 +73,8 @@ pub(crate) fn commit_sets<P: Pages>(
 ) -> Result<(), End>
     requires sound { shown.IsSound store.old }
     requires edits { AreEdits sets.now ats.now }
-    ensures does { loads.ForSets store.old sets.now ats.now (λ total name book runs. loads.DoesRuns total name book runs result store.old store.new) }
+    ensures does { loads.ForSets store.old sets.now ats.now
+        (λ total name book runs. loads.DoesRuns total name book runs result store.old store.new) }
     ensures carries { loads.CarriesOn store.old store.new }
     ensures cause { IfErr result (λ e. loads.FailsFor e store.old store.new) }
     ensures blames { IfErr result (λ e. BlamesNone e) }

@@ -62,9 +62,16 @@ impl<P: PageWorld> LineWork<Store<P>, End> for Loader {
 
     ghost fit_later = { λ loader at first later less fit. (fit.0, fewer loader.points first later less fit.1, fit.2) };
 
-    ghost fit_taken = { λ loader old new at takes fit. ((P.take_keeps (shown.pages old) (shown.pages new) takes.pages_are).fit fit.0, fit.1, fit.2) };
+    ghost fit_taken = { λ loader old new at takes fit. (
+      (P.take_keeps (shown.pages old) (shown.pages new) takes.pages_are).fit fit.0,
+      fit.1,
+      fit.2,
+    ) };
 
-    ghost stands_taken = { λ loading loader old new takes sent. stands_taken (shown.IsTold old) (shown.IsTold new) (shown.view old) (shown.view new) loader loading (P.take_told (shown.pages old) (shown.pages new) takes.pages_are) (P.take_keeps (shown.pages old) (shown.pages new) takes.pages_are) (P.take_passes (shown.pages old) (shown.pages new) takes.pages_are) };
+    ghost stands_taken = { λ loading loader old new takes sent. stands_taken (shown.IsTold old) (shown.IsTold new) (shown.view old)
+        (shown.view new) loader loading (P.take_told (shown.pages old) (shown.pages new) takes.pages_are)
+        (P.take_keeps (shown.pages old) (shown.pages new) takes.pages_are)
+        (P.take_passes (shown.pages old) (shown.pages new) takes.pages_are) };
 
     ghost lasting_on = { λ loading it text behind did lasts. lasts_on loading it text behind did lasts };
 
@@ -72,15 +79,25 @@ impl<P: PageWorld> LineWork<Store<P>, End> for Loader {
 
     ghost take_passes = { λ old new takes. P.take_passes (shown.pages old) (shown.pages new) takes.pages_are };
 
-    ghost take_goes = { λ old new takes sent reads sends pieces. goes_take _ _ (P.take_keeps (shown.pages old) (shown.pages new) takes.pages_are) (P.take_told (shown.pages old) (shown.pages new) takes.pages_are) (P.take_was_told (shown.pages old) (shown.pages new) takes.pages_are) (P.take_goes_on (shown.pages old) (shown.pages new) takes.pages_are) (same_total takes.superblock) (same_count takes.catalog) sent reads sends pieces };
+    ghost take_goes = { λ old new takes sent reads sends pieces. goes_take _ _
+        (P.take_keeps (shown.pages old) (shown.pages new) takes.pages_are) (P.take_told (shown.pages old) (shown.pages new) takes.pages_are)
+        (P.take_was_told (shown.pages old) (shown.pages new) takes.pages_are)
+        (P.take_goes_on (shown.pages old) (shown.pages new) takes.pages_are) (same_total takes.superblock)
+        (same_count takes.catalog) sent reads sends pieces };
 
-    ghost now_rests = { λ loading loader from at fit stands lasts. now_rests (shown.IsTold from) (shown.view from) loader loading (P.rests (shown.pages from) fit.0) stands };
+    ghost now_rests = { λ loading loader from at fit stands lasts. now_rests (shown.IsTold from) (shown.view from) loader loading
+        (P.rests (shown.pages from) fit.0) stands };
 
     ghost goes_none = { λ at. goes_nowhere _ };
 
     ghost goes_then = { λ old between new. goes_further _ _ _ };
 
-    ghost cause_later = { λ end old between new quiet goes cause. (cause_later _ _ _ _ _ _ _ _ _ (P.beside_read_faults (shown.pages old)) (P.beside_read_faults (shown.pages between)) quiet goes.total_is end cause.0, cause.1, cause.2) };
+    ghost cause_later = { λ end old between new quiet goes cause. (
+      cause_later _ _ _ _ _ _ _ _ _ (P.beside_read_faults (shown.pages old))
+          (P.beside_read_faults (shown.pages between)) quiet goes.total_is end cause.0,
+      cause.1,
+      cause.2,
+    ) };
 
     ghost counts_sent = { λ at. P.counts_sent (shown.pages at) };
 

@@ -1,9 +1,11 @@
 //! The lines of an input, one after the other, into a series.
-ghost use Rattle.std.specs.Prelude.{◌≡◌, ◌≢◌, ◌<◌, ◌≤◌, ◌+◌, ◌^◌, ◌++◌, ℕ, List, Option, [], None, true, false, unsigned_abs, length, IfOk, IfErr, OnOk};
+ghost use Rattle.std.specs.Prelude.{◌≡◌, ◌≢◌, ◌<◌, ◌≤◌, ◌+◌, ◌^◌, ◌++◌, ℕ, List, Option, [], None, true, false, unsigned_abs, length, IfOk};
+ghost use Rattle.std.specs.Prelude.{IfErr, OnOk};
 ghost use Rattle.chart_world.specs.Faults.{CountsFault, fault_in};
 ghost use Rattle.run_ends.specs.Faults.{end_fault};
 ghost use Rattle.series_load.specs.Runs.{Run};
-ghost use Rattle.series_load.specs.Steps.{AddsReading, BlamesLine, BlamesNone, BlamesText, IsSoundFor, LineReads, SaysSo, Took, closed, points_with};
+ghost use Rattle.series_load.specs.Steps.{AddsReading, BlamesLine, BlamesNone, BlamesText, IsSoundFor, LineReads, SaysSo, Took, closed};
+ghost use Rattle.series_load.specs.Steps.{points_with};
 ghost use Rattle.series_load.specs.Shown as loads;
 ghost use Rattle.series_store.specs.Shown as shown;
 ghost use Rattle.run_ends.specs.declared.ending.End.TheVariants.{NoMemory};
@@ -65,7 +67,8 @@ impl Loader {
 
     /// The run that stands open ends, if there is one: its set is kept.
     fn close(&mut self) -> Result<(), End>
-        ensures keeps { (waiting : List Run) (open_run : Option Run) → loads.KeepsSo self.old waiting open_run → OnOk result (loads.KeepsSo self.new (waiting ++ closed open_run) None) }
+        ensures keeps { (waiting : List Run) (open_run : Option Run) → loads.KeepsSo self.old waiting open_run
+            → OnOk result (loads.KeepsSo self.new (waiting ++ closed open_run) None) }
         ensures none { OnOk result (self.new.run.values.items ≡ []) }
         ensures edits { loads.KeepsEdits self.old → loads.KeepsEdits self.new }
         ensures err { IfErr result (λ e. e ≡ NoMemory) }
@@ -88,8 +91,10 @@ impl Loader {
     pub(crate) fn commit<P: Pages>(&mut self, store: &mut Store<P>) -> Result<(), End>
         requires sound { shown.IsSound store.old }
         requires edits { loads.KeepsEdits self.old }
-        ensures does { loads.ForRuns store.old self.old (λ total book waiting open_run. loads.DoesRuns total self.old.name book waiting result store.old store.new) }
-        ensures keeps { (waiting : List Run) (open_run : Option Run) → loads.KeepsSo self.old waiting open_run → OnOk result (loads.KeepsSo self.new [] open_run) }
+        ensures does { loads.ForRuns store.old self.old
+            (λ total book waiting open_run. loads.DoesRuns total self.old.name book waiting result store.old store.new) }
+        ensures keeps { (waiting : List Run) (open_run : Option Run) → loads.KeepsSo self.old waiting open_run
+            → OnOk result (loads.KeepsSo self.new [] open_run) }
         ensures carries { loads.CarriesOn store.old store.new }
         ensures cause { IfErr result (λ e. loads.FailsFor e store.old store.new) }
         ensures blames { IfErr result (λ e. BlamesNone e) }
@@ -113,8 +118,11 @@ impl Loader {
     pub(crate) fn end<P: Pages>(&mut self, store: &mut Store<P>) -> Result<(), End>
         requires sound { shown.IsSound store.old }
         requires edits { loads.KeepsEdits self.old }
-        ensures does { loads.ForRuns store.old self.old (λ total book waiting open_run. loads.DoesRuns total self.old.name book (waiting ++ closed open_run) result store.old store.new) }
-        ensures keeps { (waiting : List Run) (open_run : Option Run) → loads.KeepsSo self.old waiting open_run → OnOk result (loads.KeepsSo self.new [] None) }
+        ensures does { loads.ForRuns store.old self.old
+            (λ total book waiting open_run. loads.DoesRuns total self.old.name book
+            (waiting ++ closed open_run) result store.old store.new) }
+        ensures keeps { (waiting : List Run) (open_run : Option Run) → loads.KeepsSo self.old waiting open_run
+            → OnOk result (loads.KeepsSo self.new [] None) }
         ensures carries { loads.CarriesOn store.old store.new }
         ensures cause { IfErr result (λ e. loads.FailsFor e store.old store.new) }
         ensures blames { IfErr result (λ e. BlamesNone e) }
@@ -136,7 +144,9 @@ impl Loader {
     pub(crate) fn stop<P: Pages>(&mut self, store: &mut Store<P>, at: u32) -> End
         requires sound { shown.IsSound store.old }
         requires edits { loads.KeepsEdits self.old }
-        ensures does { loads.ForRuns store.old self.old (λ total book waiting open_run. loads.StopsAt at total self.old.name book (waiting ++ closed open_run) result store.old store.new) }
+        ensures does { loads.ForRuns store.old self.old
+            (λ total book waiting open_run. loads.StopsAt at total self.old.name book
+            (waiting ++ closed open_run) result store.old store.new) }
         ensures carries { loads.CarriesOn store.old store.new }
         ensures cause { loads.FailsFor result store.old store.new }
         ensures blames { BlamesLine at result }
@@ -157,7 +167,8 @@ impl Loader {
     /// Takes a reading: it goes on with the run that stands open, or ends it. A run with 256 readings ends.
     fn take_reading(&mut self, at: u32, next: &Reading) -> Result<(), End>
         requires near { unsigned_abs next.now.time < 10 ^ 19 }
-        ensures does { (waiting : List Run) (open_run : Option Run) → loads.KeepsSo self.old waiting open_run → OnOk result (Took (AddsReading self.old.step at next.now open_run) self.old.name waiting self.new.kept self.new.run) }
+        ensures does { (waiting : List Run) (open_run : Option Run) → loads.KeepsSo self.old waiting open_run
+            → OnOk result (Took (AddsReading self.old.step at next.now open_run) self.old.name waiting self.new.kept self.new.run) }
         ensures edits { loads.KeepsEdits self.old → loads.KeepsEdits self.new }
         ensures err { IfErr result (λ e. e ≡ NoMemory) }
         ensures name { self.new.name ≡ self.old.name }
@@ -182,7 +193,9 @@ impl Loader {
         requires few { self.old.points < 2 ^ 63 }
         requires near { (reading : Reading) → said ≡ Said.Point reading → unsigned_abs reading.time < 10 ^ 19 }
         requires good { said ≢ Said.Bad }
-        ensures does { (waiting : List Run) (open_run : Option Run) (text : List ℕ) → loads.KeepsSo self.old waiting open_run → 0 < length text → SaysSo self.old.scale self.old.first text said → OnOk result (loads.TookLine at text waiting open_run self.old self.new) }
+        ensures does { (waiting : List Run) (open_run : Option Run) (text : List ℕ) → loads.KeepsSo self.old waiting open_run
+            → 0 < length text → SaysSo self.old.scale self.old.first text said
+            → OnOk result (loads.TookLine at text waiting open_run self.old self.new) }
         ensures edits { loads.KeepsEdits self.old → loads.KeepsEdits self.new }
         ensures err { IfErr result (λ e. e ≡ NoMemory) }
         ensures name { self.new.name ≡ self.old.name }
@@ -220,7 +233,9 @@ impl Loader {
         requires sound { shown.IsSound store.old }
         requires edits { loads.KeepsEdits self.old }
         requires few { self.old.points < 2 ^ 63 }
-        ensures does { loads.ForRuns store.old self.old (λ total book waiting open_run. loads.TakesLine at line.now total book waiting open_run result self.old self.new store.old store.new) }
+        ensures does { loads.ForRuns store.old self.old
+            (λ total book waiting open_run. loads.TakesLine at line.now total book waiting open_run result self.old self.new store.old
+            store.new) }
         // whatever the pages are
         ensures reads { OnOk result (LineReads self.old.scale self.old.first self.old.points line.now self.new.first self.new.points) }
         ensures blames { IfErr result (λ e. BlamesText self.old.scale at self.old.first line.now e) }

@@ -48,11 +48,14 @@ pub fn load<P: PageWorld>(alloc: Global, store: &mut Store<P>, name: &Name) -> R
     // whatever the pages are: the catalog that was read lacks the name then
     ensures lacks { result ≡ Err UnknownSeries → LacksName (shown.catalog store.old) name.now }
     // what was read and stored, at the end and at each moment
-    ensures outcome { loads.ForNamed store.old name.now (λ total book series. loads.LoadsSo P.Streams name.now total book series result store.old store.new) }
+    ensures outcome { loads.ForNamed store.old name.now
+        (λ total book series. loads.LoadsSo P.Streams name.now total book series result store.old store.new) }
     // whatever the pages are: a line that is told is the first bad one, by the scale that the catalog says
-    ensures line { IfErr result (λ e. IfSome (P.left (shown.pages store.old)) (λ input. EndsAtBadOf (shown.catalog store.old) name.now input e)) }
+    ensures line { IfErr result (λ e. IfSome (P.left (shown.pages store.old))
+        (λ input. EndsAtBadOf (shown.catalog store.old) name.now input e)) }
     // and at the end no line is bad, and so many rows have a reading
-    ensures read { IfOk result (λ count. IfSome (P.left (shown.pages store.old)) (λ input. OfScale (shown.catalog store.old) name.now (λ scale. IsRead scale input count))) }
+    ensures read { IfOk result (λ count. IfSome (P.left (shown.pages store.old))
+        (λ input. OfScale (shown.catalog store.old) name.now (λ scale. IsRead scale input count))) }
     ensures within { OnOk result (IfSome (P.left (shown.pages store.old)) (λ input. length input ≤ 2 ^ 32)) }
     ensures whole { OnOk result (IsReadUp (P.left (shown.pages store.old)) (P.left (shown.pages store.new))) }
     ensures long { result ≡ Err InputTooLong → IfSome (P.left (shown.pages store.old)) (λ input. 2 ^ 32 < length input) }
@@ -86,7 +89,8 @@ fn load_lines<P: PageWorld>(
     requires first { loader.old.first ≡ true }
     requires points { loader.old.points ≡ 0 }
     ensures known { result ≢ Err UnknownSeries }
-    ensures outcome { loads.ForLoaded store.old loader.old (λ total book series. loads.LoadsSo P.Streams loader.old.name total book series result store.old store.new) }
+    ensures outcome { loads.ForLoaded store.old loader.old
+        (λ total book series. loads.LoadsSo P.Streams loader.old.name total book series result store.old store.new) }
     ensures line { IfErr result (λ e. IfSome (P.left (shown.pages store.old)) (λ input. EndsAtBad loader.old.scale input e)) }
     ensures read { IfOk result (λ count. IfSome (P.left (shown.pages store.old)) (λ input. IsRead loader.old.scale input count)) }
     ensures within { OnOk result (IfSome (P.left (shown.pages store.old)) (λ input. length input ≤ 2 ^ 32)) }

@@ -1,5 +1,6 @@
 //! The run of readings that stands open.
-ghost use Rattle.std.specs.Prelude.{◌≡◌, ◌<◌, ◌≤◌, ◌+◌, ◌^◌, ◌-ℤ◌, ◌++◌, ◌∷◌, ◌↔◌, [], pos, length, map, Some, unsigned_abs, IsTrue, IfOk, IfErr, OnOk};
+ghost use Rattle.std.specs.Prelude.{◌≡◌, ◌<◌, ◌≤◌, ◌+◌, ◌^◌, ◌-ℤ◌, ◌++◌, ◌∷◌, ◌↔◌, [], pos, length, map, Some, unsigned_abs, IsTrue, IfOk};
+ghost use Rattle.std.specs.Prelude.{IfErr, OnOk};
 ghost use Rattle.series_book.specs.declared.edits.Edit.TheVariants.{Set};
 ghost use Rattle.run_ends.specs.declared.ending.End.TheVariants.{NoMemory};
 

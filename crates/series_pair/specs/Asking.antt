@@ -30,7 +30,8 @@ module _ {P : Type 0} {g : Ghosts P} where
 
   -- how many slots the one or the other has
   abbrev pub count : Bool → StorePair P g → ℕ
-  count second at = counted second at.is_second (shown.nodes at.store.now).slots (slots_at (shown.catalog at.store.now) (side_of second at.x at.y))
+  count second at = counted second at.is_second (shown.nodes at.store.now).slots
+      (slots_at (shown.catalog at.store.now) (side_of second at.x at.y))
 
   -- asks keep the store, the pages, the catalog, both ids, and which series is asked
   pub record KeepsPair (old new : StorePair P g) : Type 0 where
@@ -68,7 +69,8 @@ module _ {P : Type 0} {g : Ghosts P} where
   abbrev pub IsAskCause : StorePair P g → StorePair P g → NodeError → Type 0
   IsAskCause old new DiskFault = HasRisen (shown.view old.store.now).faults (shown.view new.store.now).faults
   IsAskCause old new (Damaged page) =
-      IsBadOnWay old.x old.y (shown.IsTold new.store.now) (shown.total old.store.now) (shown.view new.store.now) page × shown.ForBook old.store.now (λ total book. ⊥)
+      IsBadOnWay old.x old.y (shown.IsTold new.store.now) (shown.total old.store.now) (shown.view new.store.now) page
+      × shown.ForBook old.store.now (λ total book. ⊥)
   IsAskCause old new (Missing key) = ⊥
   IsAskCause old new (BadCoefficient key) = ⊥
 

@@ -18,7 +18,8 @@ use Rattle.series_pair.specs.Damage.{IsBadForChart, IsBadForPair, IsBadOnWay}
 
 -- it is so by the record of the series
 module _ {P : Type 0} {g : Ghosts P} where
-  pub way_at : (at : Store P g) (x y id page : ℕ) → (id ≡ x) ⊎ (id ≡ y) → shown.IsSound at → id < length (shown.catalog at) → shown.Selects at id
+  pub way_at : (at : Store P g) (x y id page : ℕ) → (id ≡ x) ⊎ (id ≡ y) → shown.IsSound at → id < length (shown.catalog at)
+      → shown.Selects at id
       → (shown.nodes at).bad (Damaged page) → IsBadOnWay x y (shown.IsTold at) (shown.total at) (shown.view at) page
   way_at at x y id page own sound low selected bad =
       let one = there (shown.catalog at) id low in

@@ -15,7 +15,8 @@ ghost use Rattle.series_book.specs.declared.limits.TheConstants.{MOST_SLOTS};
 ghost use Rattle.series_store.specs.Shown as shown;
 ghost use Rattle.series_pair.specs.Asking.{GoesPair, IsReady, count, pair_view};
 ghost use Rattle.series_pair.specs.Costs.{ReadsSum};
-ghost use Rattle.series_pair.specs.Derived.{AreRowsAnswer, AreShifted, IsChartAnswer, IsChartCause, MayShow, ShowsRange, axis_of, sum_fault};
+ghost use Rattle.series_pair.specs.Derived.{AreRowsAnswer, AreShifted, IsChartAnswer, IsChartCause, MayShow, ShowsRange, axis_of};
+ghost use Rattle.series_pair.specs.Derived.{sum_fault};
 ghost use Rattle.series_pair.specs.Drawing.{error_of, node_error};
 
 use crate::store_pair::StorePair;
@@ -88,14 +89,18 @@ fn rows_of_pair<P: Pages>(
 ) -> Result<Rows, SumError>
     requires ready { IsReady pair.old }
     requires small { IsSmall sum }
-    ensures answer { shown.ForBook pair.old.store.now (λ total book. AreShifted book pair.old.x pair.old.y sum.shift → AreRowsAnswer book pair.old.x pair.old.y sum.a sum.b grid result) }
+    ensures answer { shown.ForBook pair.old.store.now (λ total book. AreShifted book pair.old.x pair.old.y sum.shift
+        → AreRowsAnswer book pair.old.x pair.old.y sum.a sum.b grid result) }
     ensures rising { IfOk result AreRising }
     ensures drawable { IfOk result (All (IsDrawable grid.w)) }
     ensures ordered { IfOk result (All IsOrdered) }
-    ensures cause { IfErr result (λ e. IsChartCause pair.old.x pair.old.y e (shown.IsTold pair.new.store.now) (shown.total pair.old.store.now) (shown.view pair.old.store.now) (shown.view pair.new.store.now)) }
+    ensures cause { IfErr result (λ e. IsChartCause pair.old.x pair.old.y e (shown.IsTold pair.new.store.now)
+        (shown.total pair.old.store.now) (shown.view pair.old.store.now) (shown.view pair.new.store.now)) }
     ensures same_reference { pair.new.store.ghost_name ≡ pair.old.store.ghost_name }
     ensures goes { GoesPair pair.old pair.new }
-    ensures reads { shown.ForBook pair.old.store.now (λ total book. ReadsSum book pair.old.x pair.old.y grid (shown.view pair.old.store.now).reads (shown.view pair.new.store.now).reads) }
+    ensures reads { shown.ForBook pair.old.store.now
+        (λ total book. ReadsSum book pair.old.x pair.old.y grid (shown.view pair.old.store.now).reads
+        (shown.view pair.new.store.now).reads) }
     ensures faults { CountsFault (fault_in sum_fault result) (shown.view pair.old.store.now) (shown.view pair.new.store.now) }
 {
     kept_sums_are_the_samples();
@@ -124,13 +129,16 @@ pub fn rows_of_sum<P: Pages>(
     requires first { x < length (shown.catalog store.old) }
     requires second { y < length (shown.catalog store.old) }
     requires small { IsSmall sum }
-    ensures answer { shown.ForBook store.old (λ total book. AreShifted book x y sum.shift → AreRowsAnswer book x y sum.a sum.b grid result) }
+    ensures answer { shown.ForBook store.old (λ total book. AreShifted book x y sum.shift
+        → AreRowsAnswer book x y sum.a sum.b grid result) }
     ensures rising { IfOk result AreRising }
     ensures drawable { IfOk result (All (IsDrawable grid.w)) }
     ensures ordered { IfOk result (All IsOrdered) }
-    ensures cause { IfErr result (λ e. IsChartCause x y e (shown.IsTold store.new) (shown.total store.old) (shown.view store.old) (shown.view store.new)) }
+    ensures cause { IfErr result (λ e. IsChartCause x y e (shown.IsTold store.new) (shown.total store.old) (shown.view store.old)
+        (shown.view store.new)) }
     ensures looks { LooksOnly store.old store.new }
-    ensures reads { shown.ForBook store.old (λ total book. ReadsSum book x y grid (shown.view store.old).reads (shown.view store.new).reads) }
+    ensures reads { shown.ForBook store.old (λ total book. ReadsSum book x y grid (shown.view store.old).reads
+        (shown.view store.new).reads) }
     ensures faults { CountsFault (fault_in sum_fault result) (shown.view store.old) (shown.view store.new) }
 {
     let mut pair = StorePair::new(store, x, y);
@@ -140,7 +148,8 @@ pub fn rows_of_sum<P: Pages>(
 /// The range that a chart of these rows shows: the one that is asked for, or from their least to their greatest value.
 pub fn shown_range(rows: &Rows, range: Option<ValueRange>) -> ValueRange
     requires { IfSome range MayShow }
-    ensures shows { (g : Grid) (samples : List Sample) → AreRowsOf g (sample_points samples) rows.now → ShowsRange range (values_of samples) result }
+    ensures shows { (g : Grid) (samples : List Sample) → AreRowsOf g (sample_points samples) rows.now
+        → ShowsRange range (values_of samples) result }
     ensures may { (w : ℕ) → All (IsDrawable w) rows.now → MayShow result }
 {
     match range {
@@ -165,12 +174,15 @@ pub fn chart_of_sum<P: Pages>(
     requires second { y < length (shown.catalog store.old) }
     requires small { IsSmall sum }
     requires range { IfSome range MayShow }
-    ensures answer { shown.ForBook store.old (λ total book. AreShifted book x y sum.shift → IsChartAnswer book x y sum.a sum.b grid range result) }
+    ensures answer { shown.ForBook store.old (λ total book. AreShifted book x y sum.shift
+        → IsChartAnswer book x y sum.a sum.b grid range result) }
     // whatever the pages are
     ensures size { IfOk result (λ canvas. HasCanvas grid canvas.w canvas.h) }
-    ensures cause { IfErr result (λ e. IsChartCause x y e (shown.IsTold store.new) (shown.total store.old) (shown.view store.old) (shown.view store.new)) }
+    ensures cause { IfErr result (λ e. IsChartCause x y e (shown.IsTold store.new) (shown.total store.old) (shown.view store.old)
+        (shown.view store.new)) }
     ensures looks { LooksOnly store.old store.new }
-    ensures reads { shown.ForBook store.old (λ total book. ReadsSum book x y grid (shown.view store.old).reads (shown.view store.new).reads) }
+    ensures reads { shown.ForBook store.old (λ total book. ReadsSum book x y grid (shown.view store.old).reads
+        (shown.view store.new).reads) }
     ensures faults { CountsFault (fault_in sum_fault result) (shown.view store.old) (shown.view store.new) }
 {
     let rows = match rows_of_sum(alloc, store, x, y, sum, grid) {

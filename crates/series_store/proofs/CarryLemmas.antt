@@ -13,7 +13,8 @@ use Rattle.path_repair.specs.Edits.{BlamesStored}
 use Rattle.path_repair.specs.Standing.{ReadsMost}
 use Rattle.path_repair.proofs.SumLemmas.{times_in_join}
 use Rattle.path_repair.specs.declared.errors.RepairError.{RepairError}
-use Rattle.path_repair.specs.declared.errors.RepairError.TheVariants.{Full as FullTree, DiskFault as TreeFault, Damaged as DamagedTree, NoMemory as TreeMemory}
+use Rattle.path_repair.specs.declared.errors.RepairError.TheVariants.{Full as FullTree, DiskFault as TreeFault, Damaged as DamagedTree}
+use Rattle.path_repair.specs.declared.errors.RepairError.TheVariants.{NoMemory as TreeMemory}
 use Rattle.series_book.specs.declared.outcomes.Outcome.{Outcome}
 use Rattle.series_catalog.specs.Catalogs.{entry_of}
 use Rattle.series_catalog.specs.declared.stored_series.StoredSeries.{StoredSeries}
@@ -32,7 +33,8 @@ NamesBelow told image s TreeFault = Unit {0}
 NamesBelow told image s (DamagedTree page) = told → IsDamagedOnce image s page
 NamesBelow told image s TreeMemory = Unit {0}
 
-unchanged_for : (s : Superblock) (told : Type 0) (e : StoreError) (old new : View) → IsEditCause e told s old new → IsUnchanged told old new → IsUnchangedFor e told old new
+unchanged_for : (s : Superblock) (told : Type 0) (e : StoreError) (old new : View) → IsEditCause e told s old new → IsUnchanged told old new
+    → IsUnchangedFor e told old new
 unchanged_for s told (Refused refusal) old new why same = same
 unchanged_for s told NotAStore old new why same = why
 unchanged_for s told DiskFault old new why same = tt
@@ -40,7 +42,8 @@ unchanged_for s told (Damaged page) old new why same = same
 unchanged_for s told NoMemory old new why same = same
 
 -- where the catalog says what the pages tell, the page is one of the tree that a record names
-pub names_below : (told : Type 0) (base : Image) (txn : Txn) (id : ℕ) (one : StoredSeries) (e : RepairError) → id < txn.superblock.series → txn.superblock.total < 2 ^ 32 → (told → entry (left_by txn base) id ≡ entry_of one) → (told → BlamesStored txn base one.tree e)
+pub names_below : (told : Type 0) (base : Image) (txn : Txn) (id : ℕ) (one : StoredSeries) (e : RepairError) → id < txn.superblock.series
+    → txn.superblock.total < 2 ^ 32 → (told → entry (left_by txn base) id ≡ entry_of one) → (told → BlamesStored txn base one.tree e)
     → NamesBelow told (left_by txn base) txn.superblock e
 names_below told base txn id one (FullTree needed have) there small says blames = tt
 names_below told base txn id one TreeFault there small says blames = tt
@@ -53,7 +56,12 @@ names_below told base txn id one (DamagedTree page) there small says blames = λ
       small = small;
       chain = once.apart.chain;
       chained = once.apart.chained;
-      once = λ p. omega (arith, once.apart.once p, times_in_join p (λ other. reached_pages once.fits image (page_levels (entry image other).slots) (entry image other).root) id s.series there);
+      once = λ p. omega (
+        arith,
+        once.apart.once p,
+        times_in_join p
+            (λ other. reached_pages once.fits image (page_levels (entry image other).slots) (entry image other).root) id s.series there,
+      );
     } in
     record {
       id = id;
@@ -63,8 +71,10 @@ names_below told base txn id one (DamagedTree page) there small says blames = λ
 names_below told base txn id one TreeMemory there small says blames = tt
 
 -- blocks were read, and nothing was changed
-pub carried_read : {most : ℕ} {told told' : Type 0} {old new under under' : View} {s s' : Superblock} (result : Result Outcome StoreError) (e : StoreError) → most ≤ 96 → IsErrAnd result (λ cause. cause ≡ e)
-    → ReadsMost most told told' old new → GoesOn under under' → s' ≡ s → IsEditCause e told s old new → IsCarriedOut told told' old new under under' s s' result
+pub carried_read : {most : ℕ} {told told' : Type 0} {old new under under' : View} {s s' : Superblock} (result : Result Outcome StoreError)
+    (e : StoreError) → most ≤ 96 → IsErrAnd result (λ cause. cause ≡ e)
+    → ReadsMost most told told' old new → GoesOn under under' → s' ≡ s → IsEditCause e told s old new
+    → IsCarriedOut told told' old new under under' s s' result
 carried_read (Ok outcome) e few is reads on same why = absurd is
 carried_read {most} {told} {told'} {old} {new} {under} {under'} {s} (Err cause) e few is reads on same why =
     let C : StoreError → Type 0 = λ x. IsEditCause x told s old new in

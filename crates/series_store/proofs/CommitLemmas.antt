@@ -38,7 +38,8 @@ no_read most told at = record {
 }
 
 -- reads move little
-pub reads_move : (most : ℕ) (told told' : Type 0) (old new : View) → most ≤ 96 → ReadsMost most told told' old new → Moves told told' old new
+pub reads_move : (most : ℕ) (told told' : Type 0) (old new : View) → most ≤ 96 → ReadsMost most told told' old new
+    → Moves told told' old new
 reads_move most told told' old new few reads = record {
   told = reads.told;
   was_told = reads.was_told;

@@ -28,13 +28,15 @@ keep_none told at = record {
 pub looks_none : (told : Type 0) (at under : View) (s : Superblock) → Looks told told at at under under s s
 looks_none told at under s = record { kept = keep_none told at; over = record { superblock = refl; goes_on = goes_none under } }
 
-pub looks_read : (told told' : Type 0) (old new under under' : View) (s s' : Superblock) → Reads told told' old new → s' ≡ s → GoesOn under under' → Looks told told' old new under under' s s'
+pub looks_read : (told told' : Type 0) (old new under under' : View) (s s' : Superblock) → Reads told told' old new → s' ≡ s
+    → GoesOn under under' → Looks told told' old new under under' s s'
 looks_read told told' old new under under' s s' reads same goes_on = record {
   kept = read_keeps told told' old new reads;
   over = record { superblock = same; goes_on = goes_on };
 }
 
-pub looks_then : (told told' told'' : Type 0) (old mid new under under' under'' : View) (s s' s'' : Superblock) → Looks told told' old mid under under' s s' → Looks told' told'' mid new under' under'' s' s''
+pub looks_then : (told told' told'' : Type 0) (old mid new under under' under'' : View) (s s' s'' : Superblock)
+    → Looks told told' old mid under under' s s' → Looks told' told'' mid new under' under'' s' s''
     → Looks told told'' old new under under'' s s''
 looks_then told told' told'' old mid new under under' under'' s s' s'' first second = record {
   kept = keep_on told told' told'' old mid new first.kept second.kept;

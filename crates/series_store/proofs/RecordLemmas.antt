@@ -1,5 +1,6 @@
 -- A series has another tree in its record, and the others keep theirs.
-use Rattle.std.proofs.Common.{◌≡◌, ◌≢◌, ℕ, ℤ, zero, suc, ◌<◌, ◌≤◌, List, [], ◌∷◌, length, set, slice_get, get_or, Option, None, Some, All, false, unsigned_abs, IfSome, refl, sym, ap, subst, ◌∙◌, arith, inl, inr}
+use Rattle.std.proofs.Common.{◌≡◌, ◌≢◌, ℕ, ℤ, zero, suc, ◌<◌, ◌≤◌, List, [], ◌∷◌, length, set, slice_get, get_or, Option, None, Some, All}
+use Rattle.std.proofs.Common.{false, unsigned_abs, IfSome, refl, sym, ap, subst, ◌∙◌, arith, inl, inr}
 use Rattle.std.proofs.lemmas.Bool.{le-ltb}
 use Rattle.std.proofs.lemmas.Bool.Decides.{eqb_tells}
 use Rattle.std.proofs.lemmas.Option.{same_Some, slice_get_within, slice_get-get_or}
@@ -40,7 +41,8 @@ get_other {X} (x ∷ xs) (suc i) zero new other = refl
 get_other {X} (x ∷ xs) (suc i) (suc c) new other = get_other xs i c new (λ is. other (ap suc is))
 
 -- what holds of the one that is put and of the others
-set_each : {X : Type 0} (P : ℕ → X → Type 0) (xs : List X) (i : ℕ) (old new : X) → slice_get xs i ≡ Some old → P i new → ((c : ℕ) (x : X) → c ≢ i → slice_get xs c ≡ Some x → P c x)
+set_each : {X : Type 0} (P : ℕ → X → Type 0) (xs : List X) (i : ℕ) (old new : X) → slice_get xs i ≡ Some old → P i new
+    → ((c : ℕ) (x : X) → c ≢ i → slice_get xs c ≡ Some x → P c x)
     → (c : ℕ) (x : X) → slice_get (set xs i new) c ≡ Some x → P c x
 set_each {X} P xs i old new there here others c x found = elim (eqb_tells c i) [
   | inl is ↦
@@ -66,36 +68,45 @@ entry_later fresh fresh' e more is = record {
   span = is.span;
 }
 
-pub fit_after : (fresh fresh' : ℕ) (items : List StoredSeries) (id : ℕ) (one : StoredSeries) (tree : Tree) → fresh ≤ fresh' → slice_get items id ≡ Some one → IsEntry fresh' (entry_of (record one { tree = tree })) → AreFit fresh items
+pub fit_after : (fresh fresh' : ℕ) (items : List StoredSeries) (id : ℕ) (one : StoredSeries) (tree : Tree) → fresh ≤ fresh'
+    → slice_get items id ≡ Some one → IsEntry fresh' (entry_of (record one { tree = tree })) → AreFit fresh items
     → AreFit fresh' (with_tree items id one tree)
 fit_after fresh fresh' items id one tree more there is fit =
-    set_each (λ i x. IsEntry fresh' (entry_of x)) items id one (record one { tree = tree }) there is (λ i x other found. entry_later fresh fresh' (entry_of x) more (fit i x found))
+    set_each (λ i x. IsEntry fresh' (entry_of x)) items id one (record one { tree = tree }) there is
+    (λ i x other found. entry_later fresh fresh' (entry_of x) more (fit i x found))
 
 -- a page of the catalog is none of a tree, so that a change of a tree leaves it
-pub catalog_stays : (before mid : Image) (fresh count p : ℕ) → AreCatalog before fresh count → KeepsCatalog before mid → 1 ≤ p → p < 17 → mid p ≡ before p
+pub catalog_stays : (before mid : Image) (fresh count p : ℕ) → AreCatalog before fresh count → KeepsCatalog before mid → 1 ≤ p → p < 17
+    → mid p ≡ before p
 catalog_stays before mid fresh count p is keeps from to = keeps p from to (λ kind. absurd (omega (arith, kind, (is p from to).kind)))
 
-pub told_after : (before mid after : Image) (fresh count : ℕ) (items : List StoredSeries) (id : ℕ) (one : StoredSeries) (tree : Tree) → AreCatalog before fresh count → KeepsCatalog before mid
-    → IsRecordSet mid after id (entry_of (record one { tree = tree })) → slice_get items id ≡ Some one → length items ≤ 512 → AreAsTold before items → AreAsTold after (with_tree items id one tree)
+pub told_after : (before mid after : Image) (fresh count : ℕ) (items : List StoredSeries) (id : ℕ) (one : StoredSeries) (tree : Tree)
+    → AreCatalog before fresh count → KeepsCatalog before mid
+    → IsRecordSet mid after id (entry_of (record one { tree = tree })) → slice_get items id ≡ Some one → length items ≤ 512
+    → AreAsTold before items → AreAsTold after (with_tree items id one tree)
 told_after before mid after fresh count items id one tree catalog keeps put there few told =
     set_each (λ i x. entry after i ≡ entry_of x) items id one (record one { tree = tree }) there put.set
     (λ i x other found.
     let low : i < 512 = omega (arith, few, slice_get_within items i x found) in
     entry_stays mid after id (entry_of (record one { tree = tree })) i put other
-    ∙ ap (λ page. entry_at page (number_of i)) (catalog_stays before mid fresh count (page_of i) catalog keeps (page_low i) (page_high i low))
+    ∙ ap (λ page. entry_at page (number_of i)) (catalog_stays before mid fresh count (page_of i) catalog keeps (page_low i)
+    (page_high i low))
     ∙ told i x found)
 
-pub whole_after : (before mid after : Image) (fresh fresh' count count' id : ℕ) (e : Entry) → AreCatalog before fresh count → fresh ≤ fresh' → count' ≡ count → KeepsCatalog before mid
+pub whole_after : (before mid after : Image) (fresh fresh' count count' id : ℕ) (e : Entry) → AreCatalog before fresh count → fresh ≤ fresh'
+    → count' ≡ count → KeepsCatalog before mid
     → IsRecordSet mid after id e → KeepsRecords mid after id fresh' → id < count → AreCatalog after fresh' count'
 whole_after before mid after fresh fresh' count count' id e catalog more same keeps put kept within p from to =
     let N : ℕ → Type 0 = λ n. KeepsLayout (records_of p n) fresh' (after p) in
     let M : List ℕ → Type 0 = λ page. KeepsLayout (records_of p count) fresh' page in
-    let at_mid : M (mid p) = subst M (sym (catalog_stays before mid fresh count p catalog keeps from to)) (layout_later (before p) (records_of p count) fresh fresh' more (catalog p from to)) in
+    let at_mid : M (mid p) = subst M (sym (catalog_stays before mid fresh count p catalog keeps from to))
+    (layout_later (before p) (records_of p count) fresh fresh' more (catalog p from to)) in
     subst N (sym same) (elim (eqb_tells p (page_of id)) [
       | inl is ↦
           let Q : ℕ → Type 0 = λ q. KeepsLayout (records_of q count) fresh' (after q) in
           let R : ℕ → Type 0 = λ q. KeepsLayout (records_of q count) fresh' (mid q) in
-          subst Q (sym is.1) (kept (records_of (page_of id) count) ((in_use id count).0 within) (records_few (page_of id) count) (subst R is.1 at_mid))
+          subst Q (sym is.1) (kept (records_of (page_of id) count) ((in_use id count).0 within) (records_few (page_of id) count)
+          (subst R is.1 at_mid))
       | inr is ↦ subst M (sym (put.others p is.1)) at_mid
     ])
 
@@ -108,7 +119,8 @@ slots_fit : (slots : List (Option ℤ)) → AreSlots slots → All (λ value. is
 slots_fit slots are k d within = fits (get_or slots k d) (λ v is. are k v (slice_get-get_or slots k d within ∙ ap Some is))
 
 -- the record says what the series is
-record_of : (image : Image) (s : Superblock) (book : List Series) (id : ℕ) (series : Series) (one : StoredSeries) (tree : Tree) → IsStore image s book → slice_get book id ≡ Some series → entry image id ≡ entry_of one
+record_of : (image : Image) (s : Superblock) (book : List Series) (id : ℕ) (series : Series) (one : StoredSeries) (tree : Tree)
+    → IsStore image s book → slice_get book id ≡ Some series → entry image id ≡ entry_of one
     → IsRecordOf series (entry_of (record one { tree = tree }))
 record_of image s book id series one tree store there told =
     let is : IsRecordOf series (entry image id) = (store.kept id series there).record_is in
@@ -120,9 +132,12 @@ record_of image s book id series one tree store there told =
     }
 
 -- the pages with another tree of a series and its record
-pub saved_book : (before mid after : Image) (s s' : Superblock) (total : ℕ) (book : List Series) (id : ℕ) (series : Series) (slots : List (Option ℤ)) (one : StoredSeries) (tree : Tree)
-    → IsStore before s book → s.total ≡ total → slice_get book id ≡ Some series → entry before id ≡ entry_of one → IsLater s s' → IsTreeChanged before mid (length book) id s' tree slots
-    → IsEntry s'.fresh (entry_of (record one { tree = tree })) → IsRecordSet mid after id (entry_of (record one { tree = tree })) → KeepsRecords mid after id s'.fresh → StandsForBook after total (with_slots book id series slots)
+pub saved_book : (before mid after : Image) (s s' : Superblock) (total : ℕ) (book : List Series) (id : ℕ) (series : Series)
+    (slots : List (Option ℤ)) (one : StoredSeries) (tree : Tree)
+    → IsStore before s book → s.total ≡ total → slice_get book id ≡ Some series → entry before id ≡ entry_of one → IsLater s s'
+    → IsTreeChanged before mid (length book) id s' tree slots
+    → IsEntry s'.fresh (entry_of (record one { tree = tree })) → IsRecordSet mid after id (entry_of (record one { tree = tree }))
+    → KeepsRecords mid after id s'.fresh → StandsForBook after total (with_slots book id series slots)
 saved_book before mid after s s' total book id series slots one tree store same there told later changed is put kept =
     let says : IsRecordOf series (entry_of (record one { tree = tree })) = record_of before s book id series one tree store there told in
     let S : ℤ → Type 0 = λ start. EndsInTime start one.step tree.slots in
@@ -131,7 +146,8 @@ saved_book before mid after s s' total book id series slots one tree store same 
     record {
       superblock = s';
       total_is = later.total ∙ same;
-      store = changed_store before mid after s s' book id series slots tree (entry_of (record one { tree = tree })) store there later changed says refl put kept
+      store = changed_store before mid after s s' book id series slots tree
+          (entry_of (record one { tree = tree })) store there later changed says refl put kept
           (IsBook-with_slots book id series slots store.is_book there (record {
             short = omega (arith, changed.edited.holds.is_tree.slots, is.slots);
             last = subst L changed.edited.holds.is_tree.slots (subst T says.step (subst S says.start is.last));
@@ -149,10 +165,12 @@ put_back {X} (x ∷ xs) zero old new there = ap (λ y. y ∷ xs) (sym (same_Some
 put_back {X} (x ∷ xs) (suc i) old new there = ap (λ ys. x ∷ ys) (put_back xs i old new there)
 
 -- a series has its old tree again
-pub set_back : (before now after : List StoredSeries) (id : ℕ) (tree : Tree) → HadTree id tree now before → IfSome (slice_get now id) (λ one. after ≡ with_tree now id one tree) → after ≡ before
+pub set_back : (before now after : List StoredSeries) (id : ℕ) (tree : Tree) → HadTree id tree now before
+    → IfSome (slice_get now id) (λ one. after ≡ with_tree now id one tree) → after ≡ before
 set_back before now after id tree had is =
     let changed : StoredSeries = record had.one { tree = had.changed } in
-    let there : slice_get now id ≡ Some changed = ap (λ (l : List StoredSeries). slice_get l id) had.now_are ∙ get_set before id had.one changed had.there in
+    let there : slice_get now id ≡ Some changed = ap (λ (l : List StoredSeries). slice_get l id) had.now_are
+    ∙ get_set before id had.one changed had.there in
     let I : StoredSeries → Type 0 = λ one. after ≡ with_tree now id one tree in
     known_some (slice_get now id) changed I there is
     ∙ ap (λ (l : List StoredSeries). set l id (record had.one { tree = tree })) had.now_are

@@ -14,7 +14,8 @@ use Rattle.series_store.proofs.TimeLemmas.{reads_leave, commit_leaves}
 use Rattle.stored_book.specs.Standing.{StandsForBook}
 
 -- the call ended with this error, which tells nothing of the book
-pub failed : (answer : Result Edited Refusal) (total : ℕ) (book : List Series) (result : Result Outcome StoreError) (cause : StoreError) (old new : View) → IsRefusedBy answer cause → IsErrAnd result (λ e. e ≡ cause)
+pub failed : (answer : Result Edited Refusal) (total : ℕ) (book : List Series) (result : Result Outcome StoreError) (cause : StoreError)
+    (old new : View) → IsRefusedBy answer cause → IsErrAnd result (λ e. e ≡ cause)
     → Passes old new (IsEitherBy answer total book) (Quiet old) → IsAnswered answer total book result old new
 failed answer total book (Ok outcome) cause old new says is time = absurd is
 failed answer total book (Err e) cause old new says is time =
@@ -22,13 +23,18 @@ failed answer total book (Err e) cause old new says is time =
     record { done = tt; refused = subst P (sym is) says; moments = time }
 
 -- nothing was committed
-pub failed_reading : (answer : Result Edited Refusal) (total : ℕ) (book : List Series) (result : Result Outcome StoreError) (cause : StoreError) (old new : View) → IsRefusedBy answer cause → IsErrAnd result (λ e. e ≡ cause)
-    → StandsForBook old.image total book → Only old.image (Now old) → Passes old new (Now old) (Quiet old) → IsAnswered answer total book result old new
+pub failed_reading : (answer : Result Edited Refusal) (total : ℕ) (book : List Series) (result : Result Outcome StoreError)
+    (cause : StoreError) (old new : View) → IsRefusedBy answer cause → IsErrAnd result (λ e. e ≡ cause)
+    → StandsForBook old.image total book → Only old.image (Now old) → Passes old new (Now old) (Quiet old)
+    → IsAnswered answer total book result old new
 failed_reading answer total book result cause old new says is stands only time =
     failed answer total book result cause old new says is (reads_leave old new (IsEitherBy answer total book) only (inl stands) time)
 
 -- the moments of a commit
-pub saved_time : (edited : Edited) (total : ℕ) (book : List Series) (batch : List Entry) (told told' : Type 0) (old mid new : View) → StandsForBook old.image total book → StandsForBook (put_all batch old.image) total edited.book
-    → Only old.image (Now old) → mid.image ≡ old.image → Passes old mid (Now old) (Quiet old) → Commits batch told told' mid new → Passes old new (IsEitherBy (Ok edited) total book) (Quiet old)
+pub saved_time : (edited : Edited) (total : ℕ) (book : List Series) (batch : List Entry) (told told' : Type 0) (old mid new : View)
+    → StandsForBook old.image total book → StandsForBook (put_all batch old.image) total edited.book
+    → Only old.image (Now old) → mid.image ≡ old.image → Passes old mid (Now old) (Quiet old) → Commits batch told told' mid new
+    → Passes old new (IsEitherBy (Ok edited) total book) (Quiet old)
 saved_time edited total book batch told told' old mid new stands later only same time commits =
-    commit_leaves batch told told' old mid new (IsEitherBy (Ok edited) total book) only (inl stands) (inr (record { edited = edited; accepted = refl; stands = later })) same time commits
+    commit_leaves batch told told' old mid new (IsEitherBy (Ok edited) total book) only (inl stands)
+    (inr (record { edited = edited; accepted = refl; stands = later })) same time commits

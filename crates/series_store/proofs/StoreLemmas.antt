@@ -28,15 +28,18 @@ own_rules count s rules = record {
 }
 
 -- the numbers of a store are those with which its pages stand
-pub store_of : (count : ℕ) (image : Image) (s : Superblock) (total : ℕ) (book : List Series) → s.total < 2 ^ 32 → IsSuperblock count s → image 0 ≡ superblock_page s
+pub store_of : (count : ℕ) (image : Image) (s : Superblock) (total : ℕ) (book : List Series) → s.total < 2 ^ 32 → IsSuperblock count s
+    → image 0 ≡ superblock_page s
     → StandsForBook image total book → IsStore image s book × (s.total ≡ total)
 store_of count image s total book small rules spelled stands =
     numbers image total book s stands spelled (small_numbers s.total s small (own_rules count s rules))
 
 -- a name stands at the same place in two lists of the same names
 same_first : (name : List ℕ) (items : List StoredSeries) (book : List Series) → length items ≡ length book
-    → ((id : ℕ) (one : StoredSeries) (series : Series) → slice_get items id ≡ Some one → slice_get book id ≡ Some series → one.name ≡ series.name)
-    → position_or_len (λ (one : StoredSeries). bytes_eq one.name name) items ≡ position_or_len (λ (series : Series). bytes_eq series.name name) book
+    → ((id : ℕ) (one : StoredSeries) (series : Series) → slice_get items id ≡ Some one → slice_get book id ≡ Some series
+    → one.name ≡ series.name)
+    → position_or_len (λ (one : StoredSeries). bytes_eq one.name name) items ≡ position_or_len
+    (λ (series : Series). bytes_eq series.name name) book
 same_first name [] [] long same = refl
 same_first name [] (series ∷ book) long same = absurd (omega (arith, long))
 same_first name (one ∷ items) [] long same = absurd (omega (arith, long))
@@ -47,19 +50,23 @@ same_first name (one ∷ items) (series ∷ book) long same =
     ∙ ap (λ k. cond (not (bytes_eq series.name name)) (1 + k) 0) rest
 
 same_place : (name : List ℕ) (items : List StoredSeries) (book : List Series) → length items ≡ length book
-    → ((id : ℕ) (one : StoredSeries) (series : Series) → slice_get items id ≡ Some one → slice_get book id ≡ Some series → one.name ≡ series.name)
+    → ((id : ℕ) (one : StoredSeries) (series : Series) → slice_get items id ≡ Some one → slice_get book id ≡ Some series
+    → one.name ≡ series.name)
     → place_of name items ≡ id_of name book
 unfolding place_of id_of
 same_place name items book long same =
     ap (λ k. cond (ltb k (length items)) (Some k) None) (same_first name items book long same)
-    ∙ ap (λ n. cond (ltb (position_or_len (λ (series : Series). bytes_eq series.name name) book) n) (Some (position_or_len (λ (series : Series). bytes_eq series.name name) book)) None) long
+    ∙ ap (λ n. cond (ltb (position_or_len (λ (series : Series). bytes_eq series.name name) book) n)
+    (Some (position_or_len (λ (series : Series). bytes_eq series.name name) book)) None) long
 
 -- the catalog has as many series as the book
-pub as_many : (image : Image) (s : Superblock) (book : List Series) (items : List StoredSeries) → IsStore image s book → length items ≡ s.series → length items ≡ length book
+pub as_many : (image : Image) (s : Superblock) (book : List Series) (items : List StoredSeries) → IsStore image s book
+    → length items ≡ s.series → length items ≡ length book
 as_many image s book items store counted = counted ∙ store.series_are
 
 -- and they have the same names
-pub same_names : (image : Image) (s : Superblock) (book : List Series) (items : List StoredSeries) (name : List ℕ) → IsStore image s book → AreAsTold image items → length items ≡ s.series
+pub same_names : (image : Image) (s : Superblock) (book : List Series) (items : List StoredSeries) (name : List ℕ) → IsStore image s book
+    → AreAsTold image items → length items ≡ s.series
     → place_of name items ≡ id_of name book
 same_names image s book items name store told counted =
     same_place name items book (as_many image s book items store counted) (λ id one series there there'.

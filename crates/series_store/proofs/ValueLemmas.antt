@@ -1,5 +1,6 @@
 -- The values below a page, and those of a list.
-use Rattle.std.proofs.Common.{◌≡◌, ℕ, ℤ, zero, suc, ◌+◌, ◌*◌, ◌^◌, ◌<◌, ◌≤◌, cond, is_some, List, [], ◌∷◌, length, Option, None, Some, refl, sym, ap, subst, arith, ◌∙◌}
+use Rattle.std.proofs.Common.{◌≡◌, ℕ, ℤ, zero, suc, ◌+◌, ◌*◌, ◌^◌, ◌<◌, ◌≤◌, cond, is_some, List, [], ◌∷◌, length, Option, None, Some, refl}
+use Rattle.std.proofs.Common.{sym, ap, subst, arith, ◌∙◌}
 use Rattle.std.proofs.lemmas.List.Sums.{sum_by-cons}
 use Rattle.std.proofs.lemmas.Nat.{pow-add}
 use Rattle.std.proofs.lemmas.Option.{slice_get_past}
@@ -54,7 +55,8 @@ one_slot : (list : List (Option ℤ)) (i : ℕ) → values_below list 0 i ≡ on
 unfolding values_below one
 one_slot list i = refl
 
-parts_of : (list : List (Option ℤ)) (level q : ℕ) → values_below list (suc level) q ≡ sum_below (λ c. values_below list level (128 * q + c)) 128
+parts_of : (list : List (Option ℤ)) (level q : ℕ) → values_below list (suc level) q ≡ sum_below
+    (λ c. values_below list level (128 * q + c)) 128
 unfolding values_below
 parts_of list level q = refl
 
@@ -72,7 +74,8 @@ rows list zero n =
     let whole : n * 128 ^ 0 ≡ n = omega arith in
     sum_same (λ q. values_below list 0 q) (one list) n (λ q low. one_slot list q) ∙ ap (λ k. sum_below (one list) k) (sym whole)
 rows list (suc level) n =
-    sum_same (λ q. values_below list (suc level) q) (λ q. sum_below (λ c. values_below list level (128 * q + c)) 128) n (λ q low. parts_of list level q)
+    sum_same (λ q. values_below list (suc level) q) (λ q. sum_below (λ c. values_below list level (128 * q + c)) 128) n
+    (λ q low. parts_of list level q)
     ∙ sum_parts (λ q. values_below list level q) n
     ∙ rows list level (128 * n)
     ∙ ap (λ k. sum_below (one list) k) (sym (part_sizes n level))
@@ -91,7 +94,8 @@ values_all list level covers =
 -- a slot has a span where it holds a value
 one_span : (list : List (Option ℤ)) (i : ℕ) → cond (is_some (span list (top_of_page 0 i))) 1 0 ≡ values_below list 0 i
 unfolding one
-one_span list i = ap (λ s. cond (is_some s) 1 0) (slot_key_span list i) ∙ ap (λ b. cond b 1 0) (some_slot (slot_at list i)) ∙ sym (one_slot list i)
+one_span list i = ap (λ s. cond (is_some s) 1 0) (slot_key_span list i) ∙ ap (λ b. cond b 1 0) (some_slot (slot_at list i))
+    ∙ sym (one_slot list i)
 
 -- where a range has no span, nothing is stored below its page
 pub no_values : (list : List (Option ℤ)) (level index : ℕ) → span list (top_of_page level index) ≡ None → values_below list level index ≡ 0
@@ -100,24 +104,28 @@ no_values list (suc level) index none =
     parts_of list level index
     ∙ sum_zero (λ c. values_below list level (128 * index + c)) 128
     (λ c low. no_values list level (128 * index + c)
-    (part_none list (first_slot (top_of_page (suc level) index)) (end_slot (top_of_page (suc level) index)) (first_slot (top_of_page level (128 * index + c))) (end_slot (top_of_page level (128 * index + c)))
+    (part_none list (first_slot (top_of_page (suc level) index)) (end_slot (top_of_page (suc level) index))
+    (first_slot (top_of_page level (128 * index + c))) (end_slot (top_of_page level (128 * index + c)))
     (child_first level index c) (child_end level index c low) none))
 
 -- a slot with a span holds one
-pub one_value : (list : List (Option ℤ)) (level index : ℕ) (top : Span) → level ≡ 0 → Some top ≡ span list (top_of_page level index) → 1 ≡ values_below list level index
+pub one_value : (list : List (Option ℤ)) (level index : ℕ) (top : Span) → level ≡ 0 → Some top ≡ span list (top_of_page level index)
+    → 1 ≡ values_below list level index
 one_value list level index top is there =
     let P : ℕ → Type 0 = λ l. 1 ≡ values_below list l index in
     let S : ℕ → Type 0 = λ l. Some top ≡ span list (top_of_page l index) in
     subst P (sym is) (ap (λ (s : Option Span). cond (is_some s) 1 0) (subst S is there) ∙ one_span list index)
 
 -- the children of a page together
-pub all_parts : (list : List (Option ℤ)) (level below index values child : ℕ) → level ≡ suc below → child ≡ 128 → values ≡ sum_below (λ c. values_below list below (128 * index + c)) child → values ≡ values_below list level index
+pub all_parts : (list : List (Option ℤ)) (level below index values child : ℕ) → level ≡ suc below → child ≡ 128
+    → values ≡ sum_below (λ c. values_below list below (128 * index + c)) child → values ≡ values_below list level index
 all_parts list level below index values child is end sum =
     let P : ℕ → Type 0 = λ l. values ≡ values_below list l index in
     let S : ℕ → Type 0 = λ n. values ≡ sum_below (λ c. values_below list below (128 * index + c)) n in
     subst P (sym is) (subst S end sum ∙ sym (parts_of list below index))
 
-pub part_more : (list : List (Option ℤ)) (below index values more child : ℕ) → values ≡ sum_below (λ c. values_below list below (128 * index + c)) child → more ≡ values_below list below (128 * index + child)
+pub part_more : (list : List (Option ℤ)) (below index values more child : ℕ)
+    → values ≡ sum_below (λ c. values_below list below (128 * index + c)) child → more ≡ values_below list below (128 * index + child)
     → values + more ≡ sum_below (λ c. values_below list below (128 * index + c)) (child + 1)
 part_more list below index values more child sum here =
     let next : suc child ≡ child + 1 = omega arith in
@@ -128,11 +136,18 @@ pub no_parts : (list : List (Option ℤ)) (below index : ℕ) → 0 ≡ sum_belo
 no_parts list below index = sym (sum_none (λ c. values_below list below (128 * index + c)))
 
 -- the values of a page's children are few
-pub values_fit : (values more child below : ℕ) → child < 128 → below ≤ 4 → values ≤ child * 128 ^ below → more ≤ 128 ^ below → values + more < 2 ^ 64
+pub values_fit : (values more child below : ℕ) → child < 128 → below ≤ 4 → values ≤ child * 128 ^ below → more ≤ 128 ^ below
+    → values + more < 2 ^ 64
 values_fit values more child below within low few less =
     let some : 0 < 128 = omega arith in
     let most : 128 ^ below ≤ 128 ^ 4 = pow-le-pow_right some low in
     sums values more child (128 ^ below) within few less most
   where
     sums : (values more child p : ℕ) → child < 128 → values ≤ child * p → more ≤ p → p ≤ 128 ^ 4 → values + more < 2 ^ 64
-    sums values more child p within few less most = omega (arith, few, less, most, mul-le-mul_right p (let high : child ≤ 127 = omega (arith, within) in high))
+    sums values more child p within few less most = omega (
+      arith,
+      few,
+      less,
+      most,
+      mul-le-mul_right p (let high : child ≤ 127 = omega (arith, within) in high),
+    )

@@ -24,7 +24,8 @@ pub record IsInfo (series : Series) (id : ℕ) (info : SeriesInfo) : Type 0 wher
 
 -- the book has a series of this name, and what is told of it is so
 abbrev pub IsFound : List ℕ → List Series → SeriesInfo → Type 0
-IsFound name book info = (id_of name book ≡ Some info.id) × ((series : Series) → slice_get book info.id ≡ Some series → IsInfo series info.id info)
+IsFound name book info = (id_of name book ≡ Some info.id)
+    × ((series : Series) → slice_get book info.id ≡ Some series → IsInfo series info.id info)
 
 -- what is told of a series of a catalog is so
 pub record IsStoredInfo (one : StoredSeries) (info : SeriesInfo) : Type 0 where
@@ -57,7 +58,8 @@ pub record KeepsStore (old new : Ground) (before after : Catalog) : Type 0 where
 pub store_keeps : (at : Ground) (catalog : Catalog) → KeepsStore at at catalog catalog
 store_keeps at catalog = record { pages = pages_keep at; catalog = refl }
 
-pub store_keeps_on : (old mid new : Ground) (before between after : Catalog) → KeepsStore old mid before between → KeepsStore mid new between after → KeepsStore old new before after
+pub store_keeps_on : (old mid new : Ground) (before between after : Catalog) → KeepsStore old mid before between
+    → KeepsStore mid new between after → KeepsStore old new before after
 store_keeps_on old mid new before between after first second = record {
   pages = pages_keep_on old mid new first.pages second.pages;
   catalog = second.catalog ∙ first.catalog;

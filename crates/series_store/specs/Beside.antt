@@ -27,7 +27,8 @@ kept superblock catalog tree trail = record { superblock = superblock; catalog =
 pub beside_none : (pages : Type 0) (at : Kept) → pages → KeepsBeside pages at at
 beside_none pages at are = record { pages_are = are; superblock = refl; catalog = refl; tree = refl; trail = refl }
 
-pub beside_then : (one two both : Type 0) (old between new : Kept) → (one → two → both) → KeepsBeside one old between → KeepsBeside two between new → KeepsBeside both old new
+pub beside_then : (one two both : Type 0) (old between new : Kept) → (one → two → both) → KeepsBeside one old between
+    → KeepsBeside two between new → KeepsBeside both old new
 beside_then one two both old between new join first second = record {
   pages_are = join first.pages_are second.pages_are;
   superblock = second.superblock ∙ first.superblock;

@@ -30,7 +30,10 @@ abbrev pub after_put : ℕ → List Series → ℕ → Series → ℕ → List (
 after_put total book id series slot values = within total book id series (Ok (overwritten series.slots slot values))
 
 abbrev pub with_cleared : List Series → ℕ → Series → ℕ → ℕ → Edited
-with_cleared book id series slot count = record { book = with_slots book id series (cleared series.slots slot count); slots = length series.slots }
+with_cleared book id series slot count = record {
+  book = with_slots book id series (cleared series.slots slot count);
+  slots = length series.slots;
+}
 
 abbrev pub with_added : List Series → StoredSeries → Edited
 with_added book series = record { book = book ++ series_of (entry_of series) ∷ []; slots = 0 }
@@ -60,13 +63,15 @@ abbrev pub IsEitherBy : Result Edited Refusal → ℕ → List Series → Image 
 IsEitherBy answer total book image = StandsForBook image total book ⊎ IsAfterBy answer total image
 
 -- where the pages stood for a book that answers so, a call did the same
-pub record IsAnswered (answer : Result Edited Refusal) (total : ℕ) (book : List Series) (result : Result Outcome StoreError) (old new : View) : Type 0 where
+pub record IsAnswered (answer : Result Edited Refusal) (total : ℕ) (book : List Series) (result : Result Outcome StoreError)
+    (old new : View) : Type 0 where
   pub done : IfOk result (λ outcome. IsDoneBy answer total outcome new.image)
   pub refused : IfErr result (λ e. IsRefusedBy answer e)
   pub moments : Passes old new (IsEitherBy answer total book) (Quiet old)
 
 -- what a call did, whatever the pages are
-pub record IsCarriedOut (told told' : Type 0) (old new under under' : View) (s s' : Superblock) (result : Result Outcome StoreError) : Type 0 where
+pub record IsCarriedOut (told told' : Type 0) (old new under under' : View) (s s' : Superblock)
+    (result : Result Outcome StoreError) : Type 0 where
   pub moves : Moves told told' old new
   pub goes_on : GoesOn under under'
   pub cause : IfErr result (λ e. IsEditCause e told s old new)

@@ -1,5 +1,6 @@
 -- What a check of a store counts, and which page it may find bad.
-use Rattle.std.specs.Prelude.{ℕ, ℤ, zero, suc, ◌≡◌, ◌≢◌, ◌+◌, ◌*◌, ◌<◌, ◌≤◌, ◌⊎◌, List, length, slice_get, sum_by, count_by, is_some, if◌then◌else◌, Option, None, Some, IfSome}
+use Rattle.std.specs.Prelude.{ℕ, ℤ, zero, suc, ◌≡◌, ◌≢◌, ◌+◌, ◌*◌, ◌<◌, ◌≤◌, ◌⊎◌, List, length, slice_get, sum_by, count_by, is_some}
+use Rattle.std.specs.Prelude.{if◌then◌else◌, Option, None, Some, IfSome}
 use Rattle.block_disk.specs.Counts.{HasRisen}
 use Rattle.block_disk.specs.View.{Image, View}
 use Rattle.om3_coeff.specs.declared.span.Span.{Span}
@@ -105,7 +106,8 @@ IsSoundTree image total slots zero index page top = IsSlot slots index top
 IsSoundTree image total slots (suc level) index page top =
     (page ≡ 0)
     ⊎ ((page ≢ 0) × IsSoundPage total (suc level) (image page) × (spans : ℕ → Option Span) × AreBelow top (image page) spans
-    × ((child : ℕ) → child < 128 → IsSoundTree image total slots level (128 * index + child) (child_at (image page) child) (spans (127 + child))))
+    × ((child : ℕ) → child < 128 → IsSoundTree image total slots level (128 * index + child) (child_at (image page) child)
+    (spans (127 + child))))
 
 -- each of the next so many pages of the chain with these numbers keeps its layout
 abbrev pub IsSoundChain : Image → Superblock → ℕ → Type 0
@@ -137,17 +139,20 @@ ReadsOnce s old new = new.reads + 17 ≤ old.reads + s.fresh
 
 -- the tree of each of these series is sound
 abbrev pub AreSoundTrees : Image → ℕ → List StoredSeries → Type 0
-AreSoundTrees image total series = (id : ℕ) (one : StoredSeries) → slice_get series id ≡ Some one → IsSoundTree image total one.tree.slots (page_levels one.tree.slots) 0 one.tree.root one.tree.span
+AreSoundTrees image total series = (id : ℕ) (one : StoredSeries) → slice_get series id ≡ Some one
+    → IsSoundTree image total one.tree.slots (page_levels one.tree.slots) 0 one.tree.root one.tree.span
 
 -- the tree that the record of a series names has this bad page
 pub record HasBadTree (image : Image) (s : Superblock) (at : ℕ) : Type 0 where
   pub id : ℕ
   pub within : id < s.series
-  pub bad : HasBadPage image s.total (entry image id).slots (page_levels (entry image id).slots) 0 (entry image id).root (entry image id).span at
+  pub bad : HasBadPage image s.total (entry image id).slots (page_levels (entry image id).slots) 0 (entry image id).root
+      (entry image id).span at
 
 -- the pages of all trees and of the chain are sound
 pub record AreSound (image : Image) (s : Superblock) : Type 0 where
-  pub trees : (id : ℕ) → id < s.series → IsSoundTree image s.total (entry image id).slots (page_levels (entry image id).slots) 0 (entry image id).root (entry image id).span
+  pub trees : (id : ℕ) → id < s.series → IsSoundTree image s.total (entry image id).slots (page_levels (entry image id).slots) 0
+      (entry image id).root (entry image id).span
   pub chain : IsSoundChain image s s.chain
 
 -- a page that an error names is below the total

@@ -1,5 +1,6 @@
 -- How a group of edits is staged one after the other, and committed.
-use Rattle.std.specs.Prelude.{ℕ, ◌≡◌, ◌+◌, ◌*◌, ◌<◌, ◌≤◌, ◌⊎◌, ◌++◌, ◌∷◌, Bool, true, false, List, [], length, take, drop, Result, IsErr, IfOk, IfErr, OnOk, OnErr, Vec}
+use Rattle.std.specs.Prelude.{ℕ, ◌≡◌, ◌+◌, ◌*◌, ◌<◌, ◌≤◌, ◌⊎◌, ◌++◌, ◌∷◌, Bool, true, false, List, [], length, take, drop, Result, IsErr}
+use Rattle.std.specs.Prelude.{IfOk, IfErr, OnOk, OnErr, Vec}
 use Rattle.block_disk.specs.Counts.{HasRisen}
 use Rattle.block_disk.specs.View.{Image, View, Passes}
 use Rattle.gate_pages.specs.Pages.{GoesOn, Quiet}
@@ -22,7 +23,8 @@ use Rattle.series_catalog.specs.declared.stored_series.StoredSeries.{StoredSerie
 use Rattle.path_repair.specs.Standing.{ReadsMost}
 use Rattle.stored_book.specs.Standing.{StandsForBook}
 use Rattle.tree_walk.specs.SpaceViews.{StaysOn}
-use Rattle.series_store.specs.Groups.{AreDone, AreMany, AreSome, ChangeNone, GroupMoves, HaveFewSlots, IsGroupCause, IsNoneOrAll, PassesUntil, PassesWhole, RefuseLast, answer_of, touch_of, weight, weight_of}
+use Rattle.series_store.specs.Groups.{AreDone, AreMany, AreSome, ChangeNone, GroupMoves, HaveFewSlots, IsGroupCause, IsNoneOrAll}
+use Rattle.series_store.specs.Groups.{PassesUntil, PassesWhole, RefuseLast, answer_of, touch_of, weight, weight_of}
 use Rattle.series_store.specs.Opening.{IsOutside}
 use Rattle.series_store.specs.Results.{ChangesNone, CommitsNone, IsUnchangedFor}
 use Rattle.series_store.specs.Shown as shown
@@ -59,7 +61,9 @@ IsSameOr before total book image = (image ≡ before) ⊎ StandsForBook image to
 
 -- What a call does that stages edits behind others and commits them all, whatever the pages are. So many pages are held
 -- before.
-pub record IsGrouping (told told' : Type 0) (old new under under' : View) (s s' : Superblock) (held_pages : ℕ) (items items' : List StoredSeries) (edits : List Edit) (before answers added : List (Result Outcome Refusal)) (result : Result (Unit {0}) StoreError) : Type 0 where
+pub record IsGrouping (told told' : Type 0) (old new under under' : View) (s s' : Superblock) (held_pages : ℕ)
+    (items items' : List StoredSeries) (edits : List Edit) (before answers added : List (Result Outcome Refusal))
+    (result : Result (Unit {0}) StoreError) : Type 0 where
   pub moves : GroupMoves told told' old new
   pub goes_on : GoesOn under under'
   pub failure : IfErr result (λ e. IsFailure e old.faults new.faults)
@@ -82,9 +86,11 @@ abbrev pub Follow : Bool → Result Outcome Refusal → List Edit → List Edit 
 Follow ends answer rest behind = ((behind ≡ rest) × (ends ≡ true → IsErr answer → ⊥)) ⊎ ((behind ≡ []) × (ends ≡ true))
 
 -- What it does where the pages that the edits before would leave stand for a book. A refusal ends them or doesn't.
-pub record IsGroupedBy (total : ℕ) (book : List Series) (held_pages : ℕ) (ends is_changed : Bool) (edits : List Edit) (answers : List (Result Outcome Refusal)) (result : Result (Unit {0}) StoreError) (old new : View) : Type 0 where
+pub record IsGroupedBy (total : ℕ) (book : List Series) (held_pages : ℕ) (ends is_changed : Bool) (edits : List Edit)
+    (answers : List (Result Outcome Refusal)) (result : Result (Unit {0}) StoreError) (old new : View) : Type 0 where
   pub done : OnOk result (AreDone total book edits answers new.image)
-  pub many : ends ≡ false → OnOk result ((length answers ≡ length edits) ⊎ (22 < held_pages + weight total book (take (length answers) edits)))
+  pub many : ends ≡ false → OnOk result ((length answers ≡ length edits)
+      ⊎ (22 < held_pages + weight total book (take (length answers) edits)))
   pub outside : IfErr result IsOutside
   pub reads : new.reads ≤ old.reads + 96 * length edits
   pub few_reads : OnOk result (new.reads ≤ old.reads + 96 * length answers)
@@ -96,7 +102,8 @@ pub record IsGroupedBy (total : ℕ) (book : List Series) (held_pages : ℕ) (en
   pub moments : Passes old new (IsSameOr old.image total (after_edits total book (take covered edits))) (Quiet old)
 
 -- What staging an edit behind others does, whatever the pages are.
-pub record IsNext (told told' : Type 0) (old new under under' : View) (s s' : Superblock) (txn txn' : Txn) (items items' : List StoredSeries) (before answers : List (Result Outcome Refusal)) (result : Result Undo StoreError) : Type 0 where
+pub record IsNext (told told' : Type 0) (old new under under' : View) (s s' : Superblock) (txn txn' : Txn)
+    (items items' : List StoredSeries) (before answers : List (Result Outcome Refusal)) (result : Result Undo StoreError) : Type 0 where
   pub reads : ReadsMost 96 told told' old new
   pub over : StaysOn s s' under under'
   pub failure : IfErr result (λ e. IsFailure e old.faults new.faults)
@@ -109,7 +116,8 @@ pub record IsNext (told told' : Type 0) (old new under under' : View) (s s' : Su
   pub slots : IfOk answer (λ outcome. outcome.slots ≤ MOST_SLOTS)
 
 -- What it does where the pages that the edits before would leave stand for a book.
-pub record IsNextBy (total : ℕ) (book : List Series) (edit : Edit) (result : Result Undo StoreError) (txn txn' : Txn) (image' : Image) (before answers : List (Result Outcome Refusal)) : Type 0 where
+pub record IsNextBy (total : ℕ) (book : List Series) (edit : Edit) (result : Result Undo StoreError) (txn txn' : Txn) (image' : Image)
+    (before answers : List (Result Outcome Refusal)) : Type 0 where
   pub outside : IfErr result IsOutside
   pub answer : Result Outcome Refusal
   pub answers_are : OnOk result (answers ≡ before ++ answer ∷ [])
@@ -120,7 +128,8 @@ pub record IsNextBy (total : ℕ) (book : List Series) (edit : Edit) (result : R
   pub nothing : IfOk result (λ undo. undo ≡ Nothing → txn' ≡ txn)
 
 -- What a group of edits does, whatever the pages are.
-pub record DidGroup {Z : Type 0} (told told' : Type 0) (old new under under' : View) (s s' : Superblock) (items items' : List StoredSeries) (edits : List Edit) (result : Result (Vec (Result Outcome Refusal) Z) StoreError) : Type 0 where
+pub record DidGroup {Z : Type 0} (told told' : Type 0) (old new under under' : View) (s s' : Superblock) (items items' : List StoredSeries)
+    (edits : List Edit) (result : Result (Vec (Result Outcome Refusal) Z) StoreError) : Type 0 where
   pub covered : IfOk result (λ answers. AreSome edits (length answers.items))
   pub moves : GroupMoves told told' old new
   pub goes_on : GoesOn under under'
@@ -132,7 +141,8 @@ pub record DidGroup {Z : Type 0} (told told' : Type 0) (old new under under' : V
   pub more : length items ≤ length items'
 
 -- What it does where the pages stand for a book.
-pub record IsGroupAnswered {Z : Type 0} (total : ℕ) (book : List Series) (edits : List Edit) (ends : Bool) (old new : View) (result : Result (Vec (Result Outcome Refusal) Z) StoreError) : Type 0 where
+pub record IsGroupAnswered {Z : Type 0} (total : ℕ) (book : List Series) (edits : List Edit) (ends : Bool) (old new : View)
+    (result : Result (Vec (Result Outcome Refusal) Z) StoreError) : Type 0 where
   pub done : IfOk result (λ answers. AreDone total book edits answers.items new.image)
   pub many : ends ≡ false → IfOk result (λ answers. AreMany total book edits (length answers.items))
   pub outside : IfErr result IsOutside
@@ -145,36 +155,50 @@ pub record IsGroupAnswered {Z : Type 0} (total : ℕ) (book : List Series) (edit
   pub idle : IfOk result (λ answers. ChangeNone total book (take (length answers.items) edits) → CommitsNone old new)
 
 module _ {P : Type 0} {g : Ghosts P} where
-  abbrev pub GoesNext : Result Undo StoreError → Space P g → Space P g → Txn → Txn → Catalog → Catalog → List (Result Outcome Refusal) → List (Result Outcome Refusal) → Type 0
+  abbrev pub GoesNext : Result Undo StoreError → Space P g → Space P g → Txn → Txn → Catalog → Catalog → List (Result Outcome Refusal)
+      → List (Result Outcome Refusal) → Type 0
   GoesNext result old new txn txn' catalog catalog' before answers =
-      IsNext (spaces.IsTold old) (spaces.IsTold new) (spaces.view old) (spaces.view new) (spaces.under old) (spaces.under new) (spaces.numbers old) (spaces.numbers new) txn txn' (series_in catalog) (series_in catalog') before answers result
+      IsNext (spaces.IsTold old) (spaces.IsTold new) (spaces.view old) (spaces.view new) (spaces.under old) (spaces.under new)
+      (spaces.numbers old) (spaces.numbers new) txn txn' (series_in catalog) (series_in catalog') before answers result
 
-  abbrev pub AnswersNext : ℕ → List Series → Edit → Result Undo StoreError → Space P g → Txn → Txn → List (Result Outcome Refusal) → List (Result Outcome Refusal) → Type 0
-  AnswersNext total book edit result new txn txn' before answers = IsNextBy total book edit result txn txn' (spaces.left new txn') before answers
+  abbrev pub AnswersNext : ℕ → List Series → Edit → Result Undo StoreError → Space P g → Txn → Txn → List (Result Outcome Refusal)
+      → List (Result Outcome Refusal) → Type 0
+  AnswersNext total book edit result new txn txn' before answers = IsNextBy total book edit result txn txn'
+      (spaces.left new txn') before answers
 
   -- so of each book that the transaction would leave, the one of the pages if nothing is changed
   abbrev pub ForGroup : Space P g → Txn → Bool → (ℕ → List Series → Type 0) → Type 0
   ForGroup space txn is_changed IsSo =
-      (total : ℕ) (book : List Series) → spaces.IsTold space → StandsForBook (spaces.left space txn) total book → (is_changed ≡ false → spaces.left space txn ≡ spaces.image space) → IsSo total book
+      (total : ℕ) (book : List Series) → spaces.IsTold space → StandsForBook (spaces.left space txn) total book
+      → (is_changed ≡ false → spaces.left space txn ≡ spaces.image space) → IsSo total book
 
   abbrev pub DoesGroup : {Z : Type 0} → List Edit → Result (Vec (Result Outcome Refusal) Z) StoreError → Store P g → Store P g → Type 0
   DoesGroup edits result old new =
-      DidGroup (shown.IsTold old) (shown.IsTold new) (shown.view old) (shown.view new) (shown.under old) (shown.under new) (shown.numbers old) (shown.numbers new) (shown.catalog old) (shown.catalog new) edits result
+      DidGroup (shown.IsTold old) (shown.IsTold new) (shown.view old) (shown.view new) (shown.under old) (shown.under new)
+      (shown.numbers old) (shown.numbers new) (shown.catalog old) (shown.catalog new) edits result
 
-  abbrev pub AnswersGroup : {Z : Type 0} → ℕ → List Series → List Edit → Bool → Result (Vec (Result Outcome Refusal) Z) StoreError → Store P g → Store P g → Type 0
+  abbrev pub AnswersGroup : {Z : Type 0} → ℕ → List Series → List Edit → Bool → Result (Vec (Result Outcome Refusal) Z) StoreError
+      → Store P g → Store P g → Type 0
   AnswersGroup total book edits ends result old new = IsGroupAnswered total book edits ends (shown.view old) (shown.view new) result
 
-  abbrev pub Groups : Result (Unit {0}) StoreError → Space P g → Space P g → Txn → Catalog → Catalog → List Edit → List (Result Outcome Refusal) → List (Result Outcome Refusal) → Type 0
+  abbrev pub Groups : Result (Unit {0}) StoreError → Space P g → Space P g → Txn → Catalog → Catalog → List Edit
+      → List (Result Outcome Refusal) → List (Result Outcome Refusal) → Type 0
   Groups result old new txn catalog catalog' edits before answers =
-      IsGrouping (spaces.IsTold old) (spaces.IsTold new) (spaces.view old) (spaces.view new) (spaces.under old) (spaces.under new) (spaces.numbers old) (spaces.numbers new)
+      IsGrouping (spaces.IsTold old) (spaces.IsTold new) (spaces.view old) (spaces.view new) (spaces.under old) (spaces.under new)
+      (spaces.numbers old) (spaces.numbers new)
       (length (held txn)) (series_in catalog) (series_in catalog') edits before answers (given before answers) result
 
-  abbrev pub GroupsSo : ℕ → List Series → Result (Unit {0}) StoreError → Space P g → Space P g → Txn → Bool → Bool → List Edit → List (Result Outcome Refusal) → List (Result Outcome Refusal) → Type 0
-  GroupsSo total book result old new txn ends is_changed edits before answers = IsGroupedBy total book (length (held txn)) ends is_changed edits (given before answers) result (spaces.view old) (spaces.view new)
+  abbrev pub GroupsSo : ℕ → List Series → Result (Unit {0}) StoreError → Space P g → Space P g → Txn → Bool → Bool → List Edit
+      → List (Result Outcome Refusal) → List (Result Outcome Refusal) → Type 0
+  GroupsSo total book result old new txn ends is_changed edits before answers = IsGroupedBy total book
+      (length (held txn)) ends is_changed edits (given before answers) result (spaces.view old) (spaces.view new)
 
   abbrev pub CommitsGroup : Result (Unit {0}) StoreError → Store P g → Store P g → List Edit → List (Result Outcome Refusal) → Type 0
   CommitsGroup result old new edits answers =
-      IsGrouping (shown.IsTold old) (shown.IsTold new) (shown.view old) (shown.view new) (shown.under old) (shown.under new) (shown.numbers old) (shown.numbers new) 1 (shown.catalog old) (shown.catalog new) edits [] answers answers result
+      IsGrouping (shown.IsTold old) (shown.IsTold new) (shown.view old) (shown.view new) (shown.under old) (shown.under new)
+      (shown.numbers old) (shown.numbers new) 1 (shown.catalog old) (shown.catalog new) edits [] answers answers result
 
-  abbrev pub CommitsSo : ℕ → List Series → Result (Unit {0}) StoreError → Store P g → Store P g → List Edit → Bool → List (Result Outcome Refusal) → Type 0
-  CommitsSo total book result old new edits ends answers = IsGroupedBy total book 1 ends false edits answers result (shown.view old) (shown.view new)
+  abbrev pub CommitsSo : ℕ → List Series → Result (Unit {0}) StoreError → Store P g → Store P g → List Edit → Bool
+      → List (Result Outcome Refusal) → Type 0
+  CommitsSo total book result old new edits ends answers = IsGroupedBy total book 1 ends false edits answers result (shown.view old)
+      (shown.view new)

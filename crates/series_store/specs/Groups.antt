@@ -1,5 +1,6 @@
 -- What a group of edits does, in one commit.
-use Rattle.std.specs.Prelude.{ℕ, ◌≡◌, ◌+◌, ◌<◌, ◌≤◌, ◌⊎◌, min, max, List, [], ◌∷◌, length, map, take, slice_get, All, Option, None, Some, Result, Ok, Err, IsErr, IfOk, ⊤}
+use Rattle.std.specs.Prelude.{ℕ, ◌≡◌, ◌+◌, ◌<◌, ◌≤◌, ◌⊎◌, min, max, List, [], ◌∷◌, length, map, take, slice_get, All, Option, None, Some}
+use Rattle.std.specs.Prelude.{Result, Ok, Err, IsErr, IfOk, ⊤}
 use Rattle.block_disk.specs.Counts.{HasRisen}
 use Rattle.block_disk.specs.View.{Image, View, Passes, Rises}
 use Rattle.gate_pages.specs.Pages.{Quiet}
@@ -35,9 +36,12 @@ touched_at book (Some id) touched = touched_in (slice_get book id) touched
 -- how many pages of its series' tree an edit of the book touches
 abbrev pub touch_of : List Series → Edit → ℕ
 touch_of book (Create name start step scale) = 0
-touch_of book (Append name values) = touched_at book (id_of name book) (λ series. touched_slots series (length series.slots) (length series.slots + length values))
-touch_of book (Set name time values) = touched_at book (id_of name book) (λ series. touched_slots series (place_of series time) (place_of series time + length values))
-touch_of book (Clear name time count) = touched_at book (id_of name book) (λ series. touched_slots series (place_of series time) (min (place_of series time + count) (length series.slots)))
+touch_of book (Append name values) = touched_at book (id_of name book)
+    (λ series. touched_slots series (length series.slots) (length series.slots + length values))
+touch_of book (Set name time values) = touched_at book (id_of name book)
+    (λ series. touched_slots series (place_of series time) (place_of series time + length values))
+touch_of book (Clear name time count) = touched_at book (id_of name book)
+    (λ series. touched_slots series (place_of series time) (min (place_of series time + count) (length series.slots)))
 
 abbrev pub weight_of : Result Edited Refusal → ℕ → ℕ
 weight_of (Ok edited) touched = 1 + touched
@@ -46,7 +50,8 @@ weight_of (Err refusal) touched = 0
 -- the sum of 1 + touch over the accepted ones of the edits, done one after the other
 abbrev pub weight : ℕ → List Series → List Edit → ℕ
 weight total book [] = 0
-weight total book (edit ∷ edits) = weight_of (apply book total edit) (touch_of book edit) + weight total (book_behind book (apply book total edit)) edits
+weight total book (edit ∷ edits) = weight_of (apply book total edit) (touch_of book edit) + weight total
+    (book_behind book (apply book total edit)) edits
 
 -- how many slots an edited series has then, or the refusal
 abbrev pub answer_of : Result Outcome Refusal → Result ℕ Refusal
@@ -55,7 +60,8 @@ answer_of (Err refusal) = Err refusal
 
 -- As many first edits as there are answers were answered as the book answers them one by one, and the pages stand for the
 -- book behind them.
-pub record AreDone (total : ℕ) (book : List Series) (edits : List Edit) (answers : List (Result Outcome Refusal)) (image : Image) : Type 0 where
+pub record AreDone (total : ℕ) (book : List Series) (edits : List Edit) (answers : List (Result Outcome Refusal))
+    (image : Image) : Type 0 where
   pub answered : map answer_of answers ≡ edits_give total book (take (length answers) edits)
   pub stands : StandsForBook image total (after_edits total book (take (length answers) edits))
 
@@ -69,7 +75,8 @@ AreMany total book edits covered = (covered ≡ length edits) ⊎ (22 < 1 + weig
 
 -- the pages stand for the book from before, or for the one behind so many first edits
 abbrev pub IsNoneOrAll : ℕ → List Series → List Edit → ℕ → Image → Type 0
-IsNoneOrAll total book edits covered image = StandsForBook image total book ⊎ StandsForBook image total (after_edits total book (take covered edits))
+IsNoneOrAll total book edits covered image = StandsForBook image total book
+    ⊎ StandsForBook image total (after_edits total book (take covered edits))
 
 -- a crash at any moment leaves none of some first edits, or all of them: always the same ones
 pub record PassesWhole (total : ℕ) (book : List Series) (edits : List Edit) (old new : View) : Type 0 where
@@ -88,7 +95,8 @@ IsGroupCause NoMemory told s old new = Unit {0}
 -- each edit is refused, clears slots that aren't there, or leaves the book as it is
 abbrev pub ChangeNone : ℕ → List Series → List Edit → Type 0
 ChangeNone total book [] = ⊤
-ChangeNone total book (edit ∷ edits) = (IsErr (apply book total edit) ⊎ ChangesNone total book edit) × ChangeNone total (book_behind book (apply book total edit)) edits
+ChangeNone total book (edit ∷ edits) = (IsErr (apply book total edit) ⊎ ChangesNone total book edit)
+    × ChangeNone total (book_behind book (apply book total edit)) edits
 
 -- no series has more slots than a book allows
 abbrev pub HaveFewSlots : List (Result Outcome Refusal) → Type 0
@@ -97,7 +105,8 @@ HaveFewSlots answers = All (λ answer. IfOk answer (λ outcome. outcome.slots �
 -- the book refuses none of the edits but the last one, done one after the other
 abbrev pub RefuseLast : ℕ → List Series → List Edit → Type 0
 RefuseLast total book [] = ⊤
-RefuseLast total book (edit ∷ later) = (IsErr (apply book total edit) → later ≡ []) × RefuseLast total (book_behind book (apply book total edit)) later
+RefuseLast total book (edit ∷ later) = (IsErr (apply book total edit) → later ≡ [])
+    × RefuseLast total (book_behind book (apply book total edit)) later
 
 -- a crash at any moment leaves none of some first edits, or all of them: always the same ones, and none behind a refused one
 pub record PassesUntil (total : ℕ) (book : List Series) (edits : List Edit) (old new : View) : Type 0 where

@@ -9,7 +9,8 @@ use Rattle.page_space.specs.Layout.{HasMagic, Keeps}
 use Rattle.page_space.specs.Shown as spaces
 use Rattle.page_space.specs.declared.superblock.Superblock.{Superblock}
 use Rattle.page_space.specs.declared.errors.SpaceError.{SpaceError}
-use Rattle.page_space.specs.declared.errors.SpaceError.TheVariants.{NotAStore as NoStore, Full, DiskFault as AtDisk, Damaged as AtPage, NoMemory as AtMemory}
+use Rattle.page_space.specs.declared.errors.SpaceError.TheVariants.{NotAStore as NoStore, Full, DiskFault as AtDisk, Damaged as AtPage}
+use Rattle.page_space.specs.declared.errors.SpaceError.TheVariants.{NoMemory as AtMemory}
 use Rattle.series_catalog.specs.declared.errors.CatalogError.{CatalogError}
 use Rattle.series_catalog.specs.declared.errors.CatalogError.TheVariants.{DiskFault as DiskCatalog, Damaged as BadPage, NoMemory as NoRoom}
 use Rattle.series_catalog.specs.Reading.{IsBadCatalog}

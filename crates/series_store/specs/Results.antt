@@ -64,7 +64,8 @@ abbrev pub ClearsNone : List Series → Edit → Type 0
 ClearsNone book (Create name start step scale) = ⊥
 ClearsNone book (Append name values) = ⊥
 ClearsNone book (Set name time values) = ⊥
-ClearsNone book (Clear name time count) = (id : ℕ) (series : Series) → id_of name book ≡ Some id → slice_get book id ≡ Some series → (count ≡ 0) ⊎ (length series.slots ≤ place_of series time)
+ClearsNone book (Clear name time count) = (id : ℕ) (series : Series) → id_of name book ≡ Some id → slice_get book id ≡ Some series
+    → (count ≡ 0) ⊎ (length series.slots ≤ place_of series time)
 
 -- an edited book is the one from before
 abbrev pub KeepsBook : List Series → Result Edited Refusal → Type 0

@@ -1,5 +1,6 @@
 -- What is sent of the values of a series.
-use Rattle.std.specs.Prelude.{ℕ, zero, suc, ℤ, ◌≡◌, ◌≢◌, ◌+◌, ◌*◌, ◌<◌, ◌≤◌, ◌⊎◌, ◌&&◌, Bool, nat_lt, min, if◌then◌else◌, List, [], ◌++◌, length, Option, None, Some, Result, Ok, Err, IfErr, ⊤}
+use Rattle.std.specs.Prelude.{ℕ, zero, suc, ℤ, ◌≡◌, ◌≢◌, ◌+◌, ◌*◌, ◌<◌, ◌≤◌, ◌⊎◌, ◌&&◌, Bool, nat_lt, min, if◌then◌else◌, List, [], ◌++◌}
+use Rattle.std.specs.Prelude.{length, Option, None, Some, Result, Ok, Err, IfErr, ⊤}
 use Rattle.block_disk.specs.Counts.{HasRisen}
 use Rattle.block_disk.specs.Streams.{sent_after}
 use Rattle.block_disk.specs.View.{Image, View, Now, sent_now, Passes}
@@ -48,7 +49,8 @@ first_said slots text slot value = if nat_lt slot slots then text slot value els
 -- something may be said of the first so many slots that are in the range of the page of this page level and index
 abbrev pub may_be_said_in : (ℕ → ℕ → Bool) → ℕ → ℕ → ℕ → Bool
 may_be_said_in may slots level index =
-    nat_lt (first_slot (top_of_page level index)) slots && may (first_slot (top_of_page level index)) (min (end_slot (top_of_page level index)) slots)
+    nat_lt (first_slot (top_of_page level index)) slots
+    && may (first_slot (top_of_page level index)) (min (end_slot (top_of_page level index)) slots)
 
 -- and one of them holds a value
 abbrev pub is_said_in : (ℕ → ℕ → Bool) → ℕ → List (Option ℤ) → ℕ → ℕ → Bool
@@ -123,10 +125,12 @@ HasUnfitFrom image total (suc level) index page top at slot =
     × HasUnfitFrom image total level (128 * index + child) (child_at (image page) child) (spans (127 + child)) at slot)
 
 -- what is said of the slots from first on and below this one is given behind what is said of those before them
-pub record GivesBefore (unfit : ℕ → Type 0) (saying : ℕ → List ℕ) (first : ℕ) (sent now : Option (List ℕ)) (waiting waits : List ℕ) : Type 0 where
+pub record GivesBefore (unfit : ℕ → Type 0) (saying : ℕ
+    → List ℕ) (first : ℕ) (sent now : Option (List ℕ)) (waiting waits : List ℕ) : Type 0 where
   pub slot : ℕ
   pub from : unfit slot
-  pub gives : (front : List ℕ) (before : Option (List ℕ)) → IsGiven (front ++ join_below saying first) before sent waiting → IsGiven (front ++ join_below saying slot) before now waits
+  pub gives : (front : List ℕ) (before : Option (List ℕ)) → IsGiven (front ++ join_below saying first) before sent waiting
+      → IsGiven (front ++ join_below saying slot) before now waits
 
 -- so it is, where a page is damaged, of the slots before its range
 abbrev pub IsCut : SendError → (ℕ → ℕ → Type 0) → (ℕ → List ℕ) → ℕ → Option (List ℕ) → Option (List ℕ) → List ℕ → List ℕ → Type 0
@@ -136,13 +140,15 @@ IsCut (Damaged page) unfit saying first sent now waiting waits = GivesBefore (un
 IsCut NoMemory unfit saying first sent now waiting waits = ⊤
 
 -- the texts of the values in the slots before a damaged page's were sent behind this one, and nothing else
-pub record SentBefore (unfit : ℕ → Type 0) (text : ℕ → ℤ → List ℕ) (list : List (Option ℤ)) (front : List ℕ) (before now : Option (List ℕ)) : Type 0 where
+pub record SentBefore (unfit : ℕ → Type 0) (text : ℕ → ℤ
+    → List ℕ) (list : List (Option ℤ)) (front : List ℕ) (before now : Option (List ℕ)) : Type 0 where
   pub slot : ℕ
   pub from : unfit slot
   pub sent : now ≡ sent_after (front ++ join_below (said text list) slot) before
 
 -- so it is where a tree's values were sent up to a damaged page
-abbrev pub SendsCut : SendError → (ℕ → ℕ → Type 0) → (ℕ → ℤ → List ℕ) → List (Option ℤ) → List ℕ → Option (List ℕ) → Option (List ℕ) → Type 0
+abbrev pub SendsCut : SendError → (ℕ → ℕ → Type 0) → (ℕ → ℤ → List ℕ) → List (Option ℤ) → List ℕ → Option (List ℕ) → Option (List ℕ)
+    → Type 0
 SendsCut SendFault unfit text list front before now = ⊤
 SendsCut DiskFault unfit text list front before now = ⊤
 SendsCut (Damaged page) unfit text list front before now = SentBefore (unfit page) text list front before now
@@ -157,11 +163,13 @@ IsSendCause NoMemory told old new total level page top = Unit {0}
 
 -- the same of the tree that the record of the series of this id names
 abbrev pub IsSeriesCause : SendError → Type 0 → Superblock → ℕ → View → View → Type 0
-IsSeriesCause e told s id old new = IsSendCause e told old new s.total (page_levels (entry old.image id).slots) (entry old.image id).root (entry old.image id).span
+IsSeriesCause e told s id old new = IsSendCause e told old new s.total (page_levels (entry old.image id).slots) (entry old.image id).root
+    (entry old.image id).span
 
 -- of the tree that the record of this id names, this page is unfit for its place, and its range begins with this slot
 abbrev pub IsUnfitIn : Image → ℕ → ℕ → ℕ → ℕ → Type 0
-IsUnfitIn image total id page slot = HasUnfitFrom image total (page_levels (entry image id).slots) 0 (entry image id).root (entry image id).span page slot
+IsUnfitIn image total id page slot = HasUnfitFrom image total (page_levels (entry image id).slots) 0 (entry image id).root
+    (entry image id).span page slot
 
 -- where a page of it is damaged, the texts of the values before its slots were sent
 abbrev pub CutsSeries : SendError → Image → ℕ → ℕ → (ℕ → ℤ → List ℕ) → List (Option ℤ) → List ℕ → Option (List ℕ) → Option (List ℕ) → Type 0
@@ -185,48 +193,60 @@ send_error_of store.NoMemory = NoMemory
 
 -- What is said of the slots from first on and below end is given behind what is said of those before them, by at
 -- most so many reads.
-pub record SendsPart (saying : ℕ → List ℕ) (first end pages : ℕ) (old new : View) (waiting waits : List ℕ) (result : Result (Unit {0}) SendError) : Type 0 where
+pub record SendsPart (saying : ℕ → List ℕ) (first end pages : ℕ) (old new : View) (waiting waits : List ℕ)
+    (result : Result (Unit {0}) SendError) : Type 0 where
   pub reads : new.reads ≤ old.reads + pages
-  pub gives : (front : List ℕ) (before : Option (List ℕ)) → IsGiven (front ++ join_below saying first) before old.beside.sent waiting → GivesBy result (front ++ join_below saying end) before new.beside.sent waits
+  pub gives : (front : List ℕ) (before : Option (List ℕ)) → IsGiven (front ++ join_below saying first) before old.beside.sent waiting
+      → GivesBy result (front ++ join_below saying end) before new.beside.sent waits
 
 module _ {P : Type 0} {g : Ghosts P} where
   -- the same of a space
   abbrev pub SendsBy : Space P g → Space P g → Type 0
   SendsBy old new =
-      Sends (spaces.IsTold old) (spaces.IsTold new) (spaces.view old) (spaces.view new) (spaces.under old) (spaces.under new) (spaces.numbers old) (spaces.numbers new)
+      Sends (spaces.IsTold old) (spaces.IsTold new) (spaces.view old) (spaces.view new) (spaces.under old) (spaces.under new)
+      (spaces.numbers old) (spaces.numbers new)
 
   -- a text of which a front was sent, and the rest waited, is made longer so: more of it was sent, and the rest waits
   abbrev pub GivesMore : (List ℕ → List ℕ) → Result (Unit {0}) SendError → Space P g → Space P g → List ℕ → List ℕ → Type 0
   GivesMore more result old new waiting waits =
-      (text : List ℕ) (before : Option (List ℕ)) → IsGiven text before (spaces.view old).beside.sent waiting → GivesBy result (more text) before (spaces.view new).beside.sent waits
+      (text : List ℕ) (before : Option (List ℕ)) → IsGiven text before (spaces.view old).beside.sent waiting
+      → GivesBy result (more text) before (spaces.view new).beside.sent waits
 
   -- so of the list that the tree below a page of this page level and index stands for, whose top has this span
   abbrev pub ForListBelow : Space P g → ℕ → ℕ → ℕ → Option Span → (List (Option ℤ) → Type 0) → Type 0
   ForListBelow it level index page top IsSo =
-      (list : List (Option ℤ)) → spaces.IsTold it → AreSlots list → IsTree (spaces.image it) (spaces.total it) list level index page → top ≡ span list (top_of_page level index)
+      (list : List (Option ℤ)) → spaces.IsTold it → AreSlots list → IsTree (spaces.image it) (spaces.total it) list level index page
+      → top ≡ span list (top_of_page level index)
       → IsSo list
 
   -- so of each list for which it stands where its pages fit
   abbrev pub ForFitBelow : Space P g → ℕ → ℕ → ℕ → Option Span → (List (Option ℤ) → Type 0) → Type 0
   ForFitBelow it level index page top IsSo =
-      (list : List (Option ℤ)) → spaces.IsTold it → AreSlots list → IsTreeWhereFit (spaces.image it) (spaces.total it) list level index page → top ≡ span list (top_of_page level index)
+      (list : List (Option ℤ)) → spaces.IsTold it → AreSlots list → IsTreeWhereFit (spaces.image it) (spaces.total it) list level index page
+      → top ≡ span list (top_of_page level index)
       → IsSo list
 
   -- why not all values of a tree were sent
   abbrev pub IsCauseOf : Tree → Space P g → Space P g → SendError → Type 0
-  IsCauseOf tree old new e = IsSendCause e (spaces.IsTold old) (spaces.view old) (spaces.view new) (spaces.total old) (page_levels tree.slots) tree.root tree.span
+  IsCauseOf tree old new e = IsSendCause e (spaces.IsTold old) (spaces.view old) (spaces.view new) (spaces.total old)
+      (page_levels tree.slots) tree.root tree.span
 
   -- what is said of the values of a list below a page is given behind what waited
-  abbrev pub SendsBelow : (ℕ → ℤ → List ℕ) → (ℕ → ℕ → Bool) → ℕ → ℕ → ℕ → Space P g → Space P g → List ℕ → List ℕ → Result (Unit {0}) SendError → List (Option ℤ) → Type 0
+  abbrev pub SendsBelow : (ℕ → ℤ → List ℕ) → (ℕ → ℕ → Bool) → ℕ → ℕ → ℕ → Space P g → Space P g → List ℕ → List ℕ
+      → Result (Unit {0}) SendError → List (Option ℤ) → Type 0
   SendsBelow text may slots level index old new waiting waits result list =
-      SendsPart (said text list) (first_slot (top_of_page level index)) (end_slot (top_of_page level index)) (count_where (is_said_in may slots list) level index) (spaces.view old) (spaces.view new) waiting waits result
+      SendsPart (said text list) (first_slot (top_of_page level index)) (end_slot (top_of_page level index))
+      (count_where (is_said_in may slots list) level index) (spaces.view old) (spaces.view new) waiting waits result
 
   -- and where a page below is damaged, what is said of the slots before it
-  abbrev pub CutsBelow : (ℕ → ℤ → List ℕ) → ℕ → ℕ → ℕ → Option Span → Space P g → Space P g → List ℕ → List ℕ → Result (Unit {0}) SendError → List (Option ℤ) → Type 0
+  abbrev pub CutsBelow : (ℕ → ℤ → List ℕ) → ℕ → ℕ → ℕ → Option Span → Space P g → Space P g → List ℕ → List ℕ → Result (Unit {0}) SendError
+      → List (Option ℤ) → Type 0
   CutsBelow text level index page top old new waiting waits result list =
-      IfErr result (λ e. IsCut e (HasUnfitFrom (spaces.image old) (spaces.total old) level index page top) (said text list) (first_slot (top_of_page level index)) (spaces.view old).beside.sent (spaces.view new).beside.sent waiting waits)
+      IfErr result (λ e. IsCut e (HasUnfitFrom (spaces.image old) (spaces.total old) level index page top) (said text list)
+      (first_slot (top_of_page level index)) (spaces.view old).beside.sent (spaces.view new).beside.sent waiting waits)
 
   -- the same of a store: what a crash may leave stays at each moment, and so does what is left of the input
   abbrev pub SendsOn : Store P g → Store P g → Type 0
   SendsOn old new =
-      Sends (shown.IsTold old) (shown.IsTold new) (shown.view old) (shown.view new) (shown.under old) (shown.under new) (shown.numbers old) (shown.numbers new)
+      Sends (shown.IsTold old) (shown.IsTold new) (shown.view old) (shown.view new) (shown.under old) (shown.under new) (shown.numbers old)
+      (shown.numbers new)

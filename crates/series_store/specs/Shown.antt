@@ -115,10 +115,12 @@ module _ {P : Type 0} {g : Ghosts P} where
 
   -- so of each such book with its series of this id
   abbrev pub ForSeries : Store P g → ℕ → (ℕ → List Series → Series → Type 0) → Type 0
-  ForSeries it id IsSo = (total : ℕ) (book : List Series) (series : Series) → IsTold it → StandsForBook (image it) total book → slice_get book id ≡ Some series → IsSo total book series
+  ForSeries it id IsSo = (total : ℕ) (book : List Series) (series : Series) → IsTold it → StandsForBook (image it) total book
+      → slice_get book id ≡ Some series → IsSo total book series
 
   abbrev pub ForSoundSeries : Store P g → ℕ → (ℕ → List Series → Series → Type 0) → Type 0
-  ForSoundSeries it id IsSo = (total : ℕ) (book : List Series) (series : Series) → IsSound it → IsTold it → StandsForBook (image it) total book → slice_get book id ≡ Some series → IsSo total book series
+  ForSoundSeries it id IsSo = (total : ℕ) (book : List Series) (series : Series) → IsSound it → IsTold it
+      → StandsForBook (image it) total book → slice_get book id ≡ Some series → IsSo total book series
 
   -- so of the series that the record of this id and its tree stand for, whatever else the pages are
   abbrev pub ForKept : Store P g → ℕ → (Series → Type 0) → Type 0
@@ -134,7 +136,8 @@ module _ {P : Type 0} {g : Ghosts P} where
 
   -- a call did this, whatever the pages are
   abbrev pub CarriesOut : Result Outcome StoreError → Store P g → Store P g → Type 0
-  CarriesOut result old new = IsCarriedOut (IsTold old) (IsTold new) (view old) (view new) (under old) (under new) (numbers old) (numbers new) result
+  CarriesOut result old new = IsCarriedOut (IsTold old) (IsTold new) (view old) (view new) (under old) (under new) (numbers old)
+      (numbers new) result
 
   -- an edit moves this, whatever the pages are
   abbrev pub MovesSo : Store P g → Store P g → Type 0
@@ -163,8 +166,10 @@ module _ {P : Type 0} {g : Ghosts P} where
   pub keeps_none : {so : Type 0} (at : Store P g) → so → Keeps so at at
   keeps_none {so} at are = beside_none so (beside at) are
 
-  pub keeps_then : {one two both : Type 0} (old between new : Store P g) → (one → two → both) → Keeps one old between → Keeps two between new → Keeps both old new
-  keeps_then {one} {two} {both} old between new join first second = beside_then one two both (beside old) (beside between) (beside new) join first second
+  pub keeps_then : {one two both : Type 0} (old between new : Store P g) → (one → two → both) → Keeps one old between
+      → Keeps two between new → Keeps both old new
+  keeps_then {one} {two} {both} old between new join first second = beside_then one two both (beside old) (beside between)
+      (beside new) join first second
 
   pub keeps_so : {one two : Type 0} (old new : Store P g) → (one → two) → Keeps one old new → Keeps two old new
   keeps_so {one} {two} old new more keeps = beside_so one two (beside old) (beside new) more keeps
@@ -173,7 +178,8 @@ module _ {P : Type 0} {g : Ghosts P} where
   selected_keeps at = store_keeps (stands_on at) at.catalog
 
   pub selected_keeps_on : (old mid new : Store P g) → KeepsSelected old mid → KeepsSelected mid new → KeepsSelected old new
-  selected_keeps_on old mid new before after = store_keeps_on (stands_on old) (stands_on mid) (stands_on new) old.catalog mid.catalog new.catalog before after
+  selected_keeps_on old mid new before after = store_keeps_on (stands_on old) (stands_on mid)
+      (stands_on new) old.catalog mid.catalog new.catalog before after
 
   pub selected_stays : (old new : Store P g) → KeepsSelected old new → StaysSame (nodes old) (nodes new)
   selected_stays old new kept = pages_stay (stands_on old) (stands_on new) old.trail new.trail kept.pages

@@ -1,5 +1,6 @@
 -- What staging an edit does, in a transaction and in the catalog.
-use Rattle.std.specs.Prelude.{ℕ, ℤ, Option, ◌≡◌, ◌+◌, ◌/◌, ◌-ℤ◌, ◌<◌, ◌≤◌, ◌^◌, ◌++◌, ◌∷◌, [], min, max, unsigned_abs, List, length, slice_get, Some, Result, Ok, Err, IfOk, IfErr, IfSome, OnOk, OnErr, ⊤}
+use Rattle.std.specs.Prelude.{ℕ, ℤ, Option, ◌≡◌, ◌+◌, ◌/◌, ◌-ℤ◌, ◌<◌, ◌≤◌, ◌^◌, ◌++◌, ◌∷◌, [], min, max, unsigned_abs, List, length}
+use Rattle.std.specs.Prelude.{slice_get, Some, Result, Ok, Err, IfOk, IfErr, IfSome, OnOk, OnErr, ⊤}
 use Rattle.block_disk.specs.Counts.{HasRisen}
 use Rattle.block_disk.specs.View.{Image, View}
 use Rattle.gate_pages.specs.declared.pages.Pages.{Ghosts}
@@ -115,11 +116,14 @@ HasRoomAt pages items id first end = IfSome (slice_get items id) (λ one. HasRoo
 abbrev pub HasRoomFor : ℕ → List StoredSeries → Edit → Type 0
 HasRoomFor pages items (Create name start step scale) = pages < 64
 HasRoomFor pages items (Append name values) =
-    ForNamed items name (λ one. length values ≤ MOST_VALUES → one.tree.slots + length values ≤ MOST_SLOTS → HasRoomIn pages one.tree one.tree.slots (one.tree.slots + length values))
+    ForNamed items name (λ one. length values ≤ MOST_VALUES → one.tree.slots + length values ≤ MOST_SLOTS
+    → HasRoomIn pages one.tree one.tree.slots (one.tree.slots + length values))
 HasRoomFor pages items (Set name time values) =
-    ForNamed items name (λ one. length values ≤ MOST_VALUES → slot_at_time one time + length values ≤ MOST_SLOTS → HasRoomIn pages one.tree (slot_at_time one time) (slot_at_time one time + length values))
+    ForNamed items name (λ one. length values ≤ MOST_VALUES → slot_at_time one time + length values ≤ MOST_SLOTS
+    → HasRoomIn pages one.tree (slot_at_time one time) (slot_at_time one time + length values))
 HasRoomFor pages items (Clear name time count) =
-    ForNamed items name (λ one. 0 < count → count ≤ MOST_CLEARED → slot_at_time one time < one.tree.slots → HasRoomIn pages one.tree (slot_at_time one time) (min (slot_at_time one time + count) one.tree.slots))
+    ForNamed items name (λ one. 0 < count → count ≤ MOST_CLEARED → slot_at_time one time < one.tree.slots
+    → HasRoomIn pages one.tree (slot_at_time one time) (min (slot_at_time one time + count) one.tree.slots))
 
 -- the axis of the series of this name
 pub record IsAxisIn (items : List StoredSeries) (name : List ℕ) (axis : Axis) : Type 0 where
@@ -138,7 +142,8 @@ abbrev pub AreInRange : List StoredSeries → Type 0
 AreInRange items = (id : ℕ) (one : StoredSeries) → slice_get items id ≡ Some one → (one.tree.slots ≤ MOST_SLOTS) × (1 ≤ one.step)
 
 -- what staging an edit does, whatever the pages are
-pub record IsStaging (told told' : Type 0) (old new under under' : View) (s s' : Superblock) (txn txn' : Txn) (items items' : List StoredSeries) (result : Result Staged StoreError) : Type 0 where
+pub record IsStaging (told told' : Type 0) (old new under under' : View) (s s' : Superblock) (txn txn' : Txn)
+    (items items' : List StoredSeries) (result : Result Staged StoreError) : Type 0 where
   pub reads : ReadsMost 96 told told' old new
   pub over : StaysOn s s' under under'
   pub total : (told_by txn').total ≡ (told_by txn).total
@@ -151,7 +156,8 @@ pub record IsStaging (told told' : Type 0) (old new under under' : View) (s s' :
   pub slots : IfOk result (λ staged. staged.outcome.slots ≤ MOST_SLOTS)
 
 -- where a transaction would leave pages that stand for a book which answers so, an edit was staged, or refused
-pub record IsStagedBy (answer : Result Edited Refusal) (touched total : ℕ) (result : Result Staged StoreError) (txn txn' : Txn) (image' : Image) : Type 0 where
+pub record IsStagedBy (answer : Result Edited Refusal) (touched total : ℕ) (result : Result Staged StoreError) (txn txn' : Txn)
+    (image' : Image) : Type 0 where
   pub done : IfOk result (λ staged. IsDoneBy answer total staged.outcome image')
   pub refused : IfErr result (λ e. IsRefusedBy answer e)
   pub same : IfErr result (λ e. IsRefusal e → txn' ≡ txn)
@@ -159,7 +165,8 @@ pub record IsStagedBy (answer : Result Edited Refusal) (touched total : ℕ) (re
 
 -- A transaction changed the tree of a series, with these pages and these numbers, and its record isn't changed yet: before,
 -- the pages stood for a book.
-pub record IsPartChanged (mid : Image) (s : Superblock) (one : StoredSeries) (id : ℕ) (tree : Tree) (book : List Series) (series : Series) (slots : List (Option ℤ)) : Type 0 where
+pub record IsPartChanged (mid : Image) (s : Superblock) (one : StoredSeries) (id : ℕ) (tree : Tree) (book : List Series) (series : Series)
+    (slots : List (Option ℤ)) : Type 0 where
   pub before : Image
   pub numbers : Superblock
   pub store : IsStore before numbers book
@@ -171,7 +178,8 @@ pub record IsPartChanged (mid : Image) (s : Superblock) (one : StoredSeries) (id
 -- so of the book with the changed slots
 abbrev pub ForChangedTree : Image → Superblock → List StoredSeries → ℕ → Tree → (List Series → Type 0) → Type 0
 ForChangedTree mid s items id tree IsSo =
-    (one : StoredSeries) (book : List Series) (series : Series) (slots : List (Option ℤ)) → slice_get items id ≡ Some one → IsPartChanged mid s one id tree book series slots → IsSo (with_slots book id series slots)
+    (one : StoredSeries) (book : List Series) (series : Series) (slots : List (Option ℤ)) → slice_get items id ≡ Some one
+    → IsPartChanged mid s one id tree book series slots → IsSo (with_slots book id series slots)
 
 -- of so many pages in all
 pub record IsWholeOf (total : ℕ) (told : Type 0) (image : Image) (s : Superblock) (items : List StoredSeries) : Type 0 where
@@ -181,11 +189,13 @@ pub record IsWholeOf (total : ℕ) (told : Type 0) (image : Image) (s : Superblo
 module _ {P : Type 0} {g : Ghosts P} where
   -- the catalog is that of the pages that the transaction would leave
   abbrev pub IsStaged : Space P g → Txn → Catalog → Type 0
-  IsStaged space txn catalog = IsWholeOf (spaces.total space) (spaces.IsTold space) (spaces.left space txn) (told_by txn) (series_in catalog)
+  IsStaged space txn catalog = IsWholeOf (spaces.total space) (spaces.IsTold space) (spaces.left space txn) (told_by txn)
+      (series_in catalog)
 
   -- the catalog is that of the pages, while they are sound
   abbrev pub IsStored : Space P g → Catalog → Type 0
-  IsStored space catalog = IsCatalogOf (spaces.IsSound space × spaces.IsTold space) (spaces.image space) (spaces.numbers space) (series_in catalog)
+  IsStored space catalog = IsCatalogOf (spaces.IsSound space
+      × spaces.IsTold space) (spaces.image space) (spaces.numbers space) (series_in catalog)
 
   -- the same while they are sound
   abbrev pub IsKept : Space P g → Catalog → Type 0
@@ -197,20 +207,24 @@ module _ {P : Type 0} {g : Ghosts P} where
 
   -- so of each book that the pages stand for
   abbrev pub ForKept : Space P g → (ℕ → List Series → Type 0) → Type 0
-  ForKept space IsSo = (total : ℕ) (book : List Series) → spaces.IsTold space → StandsForBook (spaces.image space) total book → IsSo total book
+  ForKept space IsSo = (total : ℕ) (book : List Series) → spaces.IsTold space → StandsForBook (spaces.image space) total book
+      → IsSo total book
 
   -- so of each book that the transaction would leave
   abbrev pub ForStaged : Space P g → Txn → (ℕ → List Series → Type 0) → Type 0
-  ForStaged space txn IsSo = (total : ℕ) (book : List Series) → spaces.IsTold space → StandsForBook (spaces.left space txn) total book → IsSo total book
+  ForStaged space txn IsSo = (total : ℕ) (book : List Series) → spaces.IsTold space → StandsForBook (spaces.left space txn) total book
+      → IsSo total book
 
   -- so of each such book with its series of this id
   abbrev pub ForStagedSeries : Space P g → Txn → ℕ → (ℕ → List Series → Series → Type 0) → Type 0
-  ForStagedSeries space txn id IsSo = (total : ℕ) (book : List Series) (series : Series) → spaces.IsTold space → StandsForBook (spaces.left space txn) total book → slice_get book id ≡ Some series → IsSo total book series
+  ForStagedSeries space txn id IsSo = (total : ℕ) (book : List Series) (series : Series) → spaces.IsTold space
+      → StandsForBook (spaces.left space txn) total book → slice_get book id ≡ Some series → IsSo total book series
 
   -- staging an edit does this, whatever the pages are
   abbrev pub Stages : Result Staged StoreError → Space P g → Space P g → Txn → Txn → Catalog → Catalog → Type 0
   Stages result old new txn txn' catalog catalog' =
-      IsStaging (spaces.IsTold old) (spaces.IsTold new) (spaces.view old) (spaces.view new) (spaces.under old) (spaces.under new) (spaces.numbers old) (spaces.numbers new) txn txn' (series_in catalog) (series_in catalog') result
+      IsStaging (spaces.IsTold old) (spaces.IsTold new) (spaces.view old) (spaces.view new) (spaces.under old) (spaces.under new)
+      (spaces.numbers old) (spaces.numbers new) txn txn' (series_in catalog) (series_in catalog') result
 
   -- an edit was staged as the book answers it
   abbrev pub AnswersSo : Result Edited Refusal → ℕ → ℕ → Result Staged StoreError → Space P g → Txn → Txn → Type 0
@@ -218,30 +232,36 @@ module _ {P : Type 0} {g : Ghosts P} where
 
   -- the same of an edit, as each book answers it that the transaction would leave
   abbrev pub AnswersEdit : Edit → Result Staged StoreError → Space P g → Space P g → Txn → Txn → Type 0
-  AnswersEdit edit result old new txn txn' = ForStaged old txn (λ total book. AnswersSo (apply book total edit) (touch_of book edit) total result new txn txn')
+  AnswersEdit edit result old new txn txn' = ForStaged old txn
+      (λ total book. AnswersSo (apply book total edit) (touch_of book edit) total result new txn txn')
 
   -- of values that are put into the slots of its series of this id
   abbrev pub AnswersPut : ℕ → ℕ → List (Option ℤ) → Result Staged StoreError → Space P g → Space P g → Txn → Txn → Type 0
   AnswersPut id slot values result old new txn txn' =
-      ForStagedSeries old txn id (λ total book series. AnswersSo (after_put total book id series slot values) (touched_slots series slot (slot + length values)) total result new txn txn')
+      ForStagedSeries old txn id (λ total book series. AnswersSo (after_put total book id series slot values)
+      (touched_slots series slot (slot + length values)) total result new txn txn')
 
   -- of slots of that series that are cleared
   abbrev pub AnswersCleared : ℕ → ℕ → ℕ → Result Staged StoreError → Space P g → Space P g → Txn → Txn → Type 0
   AnswersCleared id slot count result old new txn txn' =
-      ForStagedSeries old txn id (λ total book series. AnswersSo (Ok (with_cleared book id series slot count)) (touched_slots series slot (slot + count)) total result new txn txn')
+      ForStagedSeries old txn id (λ total book series. AnswersSo (Ok (with_cleared book id series slot count))
+      (touched_slots series slot (slot + count)) total result new txn txn')
 
   -- of a series that is added
   abbrev pub AnswersAdded : StoredSeries → Result Staged StoreError → Space P g → Space P g → Txn → Txn → Type 0
   AnswersAdded series result old new txn txn' =
-      ForStaged old txn (λ total book. IsBook (with_added book series).book → AnswersSo (Ok (with_added book series)) 0 total result new txn txn')
+      ForStaged old txn (λ total book. IsBook (with_added book series).book
+      → AnswersSo (Ok (with_added book series)) 0 total result new txn txn')
 
   -- where the tree of a series was changed, the transaction would leave the book with the changed slots
   abbrev pub StandsChanged : ℕ → Tree → Result Staged StoreError → Space P g → Space P g → Txn → Txn → Catalog → Type 0
   StandsChanged id tree result old new txn txn' catalog =
       spaces.IsTold old
-      → ForChangedTree (spaces.left old txn) (told_by txn) (series_in catalog) id tree (λ book. OnOk result (StandsForBook (spaces.left new txn') (told_by txn).total book))
+      → ForChangedTree (spaces.left old txn) (told_by txn) (series_in catalog) id tree
+      (λ book. OnOk result (StandsForBook (spaces.left new txn') (told_by txn).total book))
 
   -- a call did this, whatever the pages are
   abbrev pub CarriesOut : Result Outcome StoreError → Space P g → Space P g → Type 0
   CarriesOut result old new =
-      IsCarriedOut (spaces.IsTold old) (spaces.IsTold new) (spaces.view old) (spaces.view new) (spaces.under old) (spaces.under new) (spaces.numbers old) (spaces.numbers new) result
+      IsCarriedOut (spaces.IsTold old) (spaces.IsTold new) (spaces.view old) (spaces.view new) (spaces.under old) (spaces.under new)
+      (spaces.numbers old) (spaces.numbers new) result

@@ -60,4 +60,5 @@ FitsNowhere total page = (level : ℕ) (top : Option Span) → IsFitPage total l
 abbrev pub DamagedTreesStand : Type 0
 DamagedTreesStand =
     (old new : Image) (total : ℕ) (tree : Tree) (list : List (Option ℤ))
-    → ((page : ℕ) → (new page ≡ old page) ⊎ FitsNowhere total (new page)) → StandsFor old total tree list → StandsWhereFit new total tree list
+    → ((page : ℕ) → (new page ≡ old page) ⊎ FitsNowhere total (new page)) → StandsFor old total tree list
+    → StandsWhereFit new total tree list

@@ -34,4 +34,5 @@ IsTreeWindowCause NoMemory told old new total level page top = ⊤
 
 -- the same of the tree that the record of the series of this id names
 abbrev pub IsWindowCause : StoreError → Type 0 → Superblock → ℕ → View → View → Type 0
-IsWindowCause e told s id old new = IsTreeWindowCause e told old new s.total (page_levels (entry old.image id).slots) (entry old.image id).root (entry old.image id).span
+IsWindowCause e told s id old new = IsTreeWindowCause e told old new s.total (page_levels (entry old.image id).slots)
+    (entry old.image id).root (entry old.image id).span

@@ -1,5 +1,6 @@
 -- The stored values of a window of slots: as runs of slots that all hold one, and as a list.
-use Rattle.std.specs.Prelude.{ℕ, zero, suc, ℤ, ◌≡◌, ◌+◌, ◌-◌, ◌*◌, ◌≤◌, ◌/◌, ◌==◌, ◌&&◌, nat_lt, min, if◌then◌else◌, Bool, List, [], ◌∷◌, length, All, Option, None, Some}
+use Rattle.std.specs.Prelude.{ℕ, zero, suc, ℤ, ◌≡◌, ◌+◌, ◌-◌, ◌*◌, ◌≤◌, ◌/◌, ◌==◌, ◌&&◌, nat_lt, min, if◌then◌else◌, Bool, List, [], ◌∷◌}
+use Rattle.std.specs.Prelude.{length, All, Option, None, Some}
 use Rattle.whole_number.specs.Range.{IsValue}
 use Rattle.om3_coeff.specs.Keys.{first_slot, end_slot}
 use Rattle.path_repair.specs.Changes.{slot_at}

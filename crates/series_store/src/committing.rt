@@ -54,12 +54,15 @@ pub(crate) fn commit_one<P: Pages>(
     requires clean { stages.LeavesAll space.old txn }
     requires one { length (held txn) ≡ 1 }
     requires is_edit { IsEdit edit.now }
-    ensures answered { stages.ForKept space.old (λ total book. IsAnswered (apply book total edit.now) total book result (spaces.view space.old) (spaces.view space.new)) }
+    ensures answered { stages.ForKept space.old (λ total book. IsAnswered (apply book total edit.now) total book result
+        (spaces.view space.old) (spaces.view space.new)) }
     ensures carried { stages.CarriesOut result space.old space.new }
     ensures quiet { OnOk result ((spaces.view space.new).faults ≡ (spaces.view space.old).faults) }
     ensures quiet_err { IfErr result (λ e. e ≢ StoreError.DiskFault → (spaces.view space.new).faults ≡ (spaces.view space.old).faults) }
-    ensures none_cleared { stages.ForKept space.old (λ total book. ClearsNone book edit.now → CommitsNone (spaces.view space.old) (spaces.view space.new)) }
-    ensures kept { stages.ForKept space.old (λ total book. KeepsBook book (apply book total edit.now) → CommitsNone (spaces.view space.old) (spaces.view space.new)) }
+    ensures none_cleared { stages.ForKept space.old (λ total book. ClearsNone book edit.now
+        → CommitsNone (spaces.view space.old) (spaces.view space.new)) }
+    ensures kept { stages.ForKept space.old (λ total book. KeepsBook book (apply book total edit.now)
+        → CommitsNone (spaces.view space.old) (spaces.view space.new)) }
     ensures stored { stages.IsStored space.new catalog.new }
     ensures more { length (series_in catalog.old) ≤ length (series_in catalog.new) }
 {

@@ -1,5 +1,6 @@
 //! The values of a tree are counted, and its pages checked.
-ghost use Rattle.std.specs.Prelude.{◌≡◌, ◌≢◌, ◌<◌, ◌≤◌, ◌+◌, ◌*◌, ◌^◌, ◌↔◌, ℕ, false, Some, Option, length, is_some, IsTrue, IsOk, IfOk, IfErr, OnOk, OnErr};
+ghost use Rattle.std.specs.Prelude.{◌≡◌, ◌≢◌, ◌<◌, ◌≤◌, ◌+◌, ◌*◌, ◌^◌, ◌↔◌, ℕ, false, Some, Option, length, is_some, IsTrue, IsOk, IfOk};
+ghost use Rattle.std.specs.Prelude.{IfErr, OnOk, OnErr};
 ghost use Rattle.block_disk.specs.View.{Rises};
 ghost use Rattle.om3_coeff.specs.Spans.{IsProper, IsProperIfAny, span};
 ghost use Rattle.node_page.specs.Layout.{has_child};
@@ -9,7 +10,8 @@ ghost use Rattle.path_repair.specs.Forms.{AreTops};
 ghost use Rattle.path_repair.specs.Keeping.{IsMatched};
 ghost use Rattle.path_repair.specs.TreePages.{tree_pages};
 ghost use Rattle.series_book.specs.declared.limits.TheConstants.{MOST_SLOTS};
-ghost use Rattle.series_store.specs.Counting.{values_below, NamesBelow, IsSlot, AreParts, HasNoSlot, IsBadFor, IsSoundPage, IsSoundTree, NamesWithin, IsPageCause, IsTreeCause};
+ghost use Rattle.series_store.specs.Counting.{values_below, NamesBelow, IsSlot, AreParts, HasNoSlot, IsBadFor, IsSoundPage, IsSoundTree};
+ghost use Rattle.series_store.specs.Counting.{NamesWithin, IsPageCause, IsTreeCause};
 ghost use Rattle.page_space.specs.Shown as spaces;
 ghost use Rattle.series_store.specs.Looking as looks;
 
@@ -37,7 +39,8 @@ fn spread(
     ensures sound { OnOk result (IsSoundPage total level bytes.now) }
     ensures below { OnOk result (AreBelow (Some top) bytes.now (span_at spans.new)) }
     ensures children { OnOk result ((child : ℕ) → child < 128 → has_child bytes.now child ≡ is_some (span_at spans.new (127 + child))) }
-    ensures tops { looks.ForNodes bytes.now level top (λ list under index. OnOk result (AreTops list under index (λ child. span_at spans.new (127 + child)))) }
+    ensures tops { looks.ForNodes bytes.now level top
+        (λ list under index. OnOk result (AreTops list under index (λ child. span_at spans.new (127 + child)))) }
     ensures stands { looks.ForNodes bytes.now level top (λ list under index. NamesBelow total bytes.now → IsOk result) }
 {
     let damaged = StoreError::Damaged { page };
@@ -69,7 +72,8 @@ pub(crate) fn read_page<P: Pages>(
     ensures looks { looks.OnlyLooks space.old space.new }
     ensures one_read { (spaces.view space.new).reads ≤ (spaces.view space.old).reads + 1 }
     ensures within { IfErr result (NamesWithin (spaces.total space.old)) }
-    ensures cause { IfErr result (λ e. IsPageCause e (spaces.IsTold space.old) (spaces.view space.old) (spaces.view space.new) (spaces.total space.old) level page (Some top)) }
+    ensures cause { IfErr result (λ e. IsPageCause e (spaces.IsTold space.old) (spaces.view space.old) (spaces.view space.new)
+        (spaces.total space.old) level page (Some top)) }
     ensures quiet { OnOk result ((spaces.view space.new).faults ≡ (spaces.view space.old).faults) }
     ensures quiet_err { IfErr result (λ e. e ≢ StoreError.DiskFault → (spaces.view space.new).faults ≡ (spaces.view space.old).faults) }
     ensures reads { Rises 1 (spaces.view space.old).reads (spaces.view space.new).reads }
@@ -77,8 +81,11 @@ pub(crate) fn read_page<P: Pages>(
     ensures sound { OnOk result (IsSoundPage (spaces.total space.old) level bytes.new) }
     ensures below { OnOk result (AreBelow (Some top) bytes.new (span_at spans.new)) }
     ensures children { OnOk result ((child : ℕ) → child < 128 → has_child bytes.new child ≡ is_some (span_at spans.new (127 + child))) }
-    ensures tops { looks.ForPage space.old level page top (λ list under index. OnOk result (AreTops list under index (λ child. span_at spans.new (127 + child)))) }
-    ensures stands { looks.ForPage space.old level page top (λ list under index. NamesBelow (spaces.total space.old) (spaces.image space.old page) → IfErr result (λ e. e ≡ StoreError.DiskFault)) }
+    ensures tops { looks.ForPage space.old level page top
+        (λ list under index. OnOk result (AreTops list under index (λ child. span_at spans.new (127 + child)))) }
+    ensures stands { looks.ForPage space.old level page top
+        (λ list under index. NamesBelow (spaces.total space.old) (spaces.image space.old page)
+        → IfErr result (λ e. e ≡ StoreError.DiskFault)) }
 {
     let Ok(()) = space.get(page, bytes) else {
         return Err(StoreError::DiskFault);
@@ -143,13 +150,17 @@ pub(crate) fn count_values<P: Pages>(
     ensures looks { looks.OnlyLooks space.old space.new }
     ensures few { IfOk result (λ values. values ≤ 128 ^ level) }
     ensures within { IfErr result (NamesWithin (spaces.total space.old)) }
-    ensures cause { IfErr result (λ e. IsTreeCause e (spaces.IsTold space.old) (spaces.view space.old) (spaces.view space.new) (spaces.total space.old) slots level index page top) }
+    ensures cause { IfErr result (λ e. IsTreeCause e (spaces.IsTold space.old) (spaces.view space.old) (spaces.view space.new)
+        (spaces.total space.old) slots level index page top) }
     ensures quiet { OnOk result ((spaces.view space.new).faults ≡ (spaces.view space.old).faults) }
     ensures quiet_err { IfErr result (λ e. e ≢ StoreError.DiskFault → (spaces.view space.new).faults ≡ (spaces.view space.old).faults) }
-    ensures counts { looks.ForTree space.old slots level index page top (λ list. IfOk result (λ values. values ≡ values_below list level index)) }
+    ensures counts { looks.ForTree space.old slots level index page top
+        (λ list. IfOk result (λ values. values ≡ values_below list level index)) }
     ensures stands { looks.ForTree space.old slots level index page top (λ list. IfErr result (λ e. e ≡ StoreError.DiskFault)) }
-    ensures reads { spaces.IsTold space.old → Rises (length (tree_pages (spaces.image space.old) level page)) (spaces.view space.old).reads (spaces.view space.new).reads }
-    ensures whole { spaces.IsTold space.old → OnOk result (IsSoundTree (spaces.image space.old) (spaces.total space.old) slots level index page top) }
+    ensures reads { spaces.IsTold space.old → Rises (length (tree_pages (spaces.image space.old) level page)) (spaces.view space.old).reads
+        (spaces.view space.new).reads }
+    ensures whole { spaces.IsTold space.old → OnOk result
+        (IsSoundTree (spaces.image space.old) (spaces.total space.old) slots level index page top) }
 {
     let Some(span) = top else {
         return Ok(0);

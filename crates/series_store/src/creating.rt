@@ -33,7 +33,8 @@ pub(crate) fn create<P: Pages>(
     requires staged { stages.IsStaged space.old txn.old catalog.old }
     requires few { length (held txn.old) < 64 }
     requires is_edit { IsEdit (Create name.now start step scale) }
-    ensures answered { stages.ForStaged space.old txn.old (λ total book. stages.AnswersSo (apply book total (Create name.now start step scale)) 0 total result space.new txn.old txn.new) }
+    ensures answered { stages.ForStaged space.old txn.old
+        (λ total book. stages.AnswersSo (apply book total (Create name.now start step scale)) 0 total result space.new txn.old txn.new) }
     ensures carried { stages.Stages result space.old space.new txn.old txn.new catalog.old catalog.new }
     ensures quiet { OnOk result ((spaces.view space.new).faults ≡ (spaces.view space.old).faults) }
     ensures quiet_err { IfErr result (λ e. e ≢ StoreError.DiskFault → (spaces.view space.new).faults ≡ (spaces.view space.old).faults) }

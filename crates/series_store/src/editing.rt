@@ -5,7 +5,8 @@ ghost use Rattle.gate_pages.specs.Pages.{Quiet};
 ghost use Rattle.page_space.specs.Transactions.{held, left_by, told_by};
 ghost use Rattle.series_book.specs.declared.limits.TheConstants.{MOST_SLOTS};
 ghost use Rattle.series_book.specs.Edits.{IsEdit, apply};
-ghost use Rattle.series_store.specs.Results.{IsDone, IsRefusedWith, IsBeforeOrAfter, IsEditCause, IsUnchangedFor, ClearsNone, CommitsNone, KeepsBook};
+ghost use Rattle.series_store.specs.Results.{IsDone, IsRefusedWith, IsBeforeOrAfter, IsEditCause, IsUnchangedFor, ClearsNone, CommitsNone};
+ghost use Rattle.series_store.specs.Results.{KeepsBook};
 ghost use Rattle.series_store.specs.Shown as shown;
 
 use crate::committing::commit_one;
@@ -25,20 +26,25 @@ impl<P: Pages> Store<P> {
     pub fn edit(&mut self, edit: &Edit) -> Result<Outcome, StoreError>
         requires sound { shown.IsSound self.old }
         requires is_edit { IsEdit edit.now }
-        ensures done { shown.ForBook self.old (λ total book. IfOk result (λ outcome. IsDone total book edit.now outcome (shown.image self.new))) }
+        ensures done { shown.ForBook self.old (λ total book. IfOk result
+            (λ outcome. IsDone total book edit.now outcome (shown.image self.new))) }
         ensures refused { shown.ForBook self.old (λ total book. IfErr result (λ e. IsRefusedWith total book edit.now e)) }
         // a crash at any moment leaves the book from before the edit, or the edited one
-        ensures moments { shown.ForBook self.old (λ total book. Passes (shown.view self.old) (shown.view self.new) (IsBeforeOrAfter total book edit.now) (Quiet (shown.view self.old))) }
+        ensures moments { shown.ForBook self.old (λ total book. Passes (shown.view self.old) (shown.view self.new)
+            (IsBeforeOrAfter total book edit.now) (Quiet (shown.view self.old))) }
         ensures moves { shown.MovesSo self.old self.new }
         ensures goes_on { shown.TimeGoesOn self.old self.new }
-        ensures cause { IfErr result (λ e. IsEditCause e (shown.IsTold self.old) (shown.numbers self.old) (shown.view self.old) (shown.view self.new)) }
+        ensures cause { IfErr result (λ e. IsEditCause e (shown.IsTold self.old) (shown.numbers self.old) (shown.view self.old)
+            (shown.view self.new)) }
         ensures quiet { OnOk result ((shown.view self.new).faults ≡ (shown.view self.old).faults) }
         ensures quiet_err { IfErr result (λ e. e ≢ StoreError.DiskFault → (shown.view self.new).faults ≡ (shown.view self.old).faults) }
         ensures unchanged { IfErr result (λ e. IsUnchangedFor e (shown.IsTold self.old) (shown.view self.old) (shown.view self.new)) }
         // an edit that leaves the book as it is writes and syncs nothing
-        ensures same_book { shown.ForBook self.old (λ total book. KeepsBook book (apply book total edit.now) → CommitsNone (shown.view self.old) (shown.view self.new)) }
+        ensures same_book { shown.ForBook self.old (λ total book. KeepsBook book (apply book total edit.now)
+            → CommitsNone (shown.view self.old) (shown.view self.new)) }
         // nor does a clear of slots that aren't there
-        ensures idle { shown.ForBook self.old (λ total book. ClearsNone book edit.now → CommitsNone (shown.view self.old) (shown.view self.new)) }
+        ensures idle { shown.ForBook self.old (λ total book. ClearsNone book edit.now
+            → CommitsNone (shown.view self.old) (shown.view self.new)) }
         ensures sound { OnOk result (shown.IsSound self.new) }
         ensures total { shown.total self.new ≡ shown.total self.old }
         ensures slots { IfOk result (λ outcome. outcome.slots ≤ MOST_SLOTS) }
@@ -55,12 +61,15 @@ impl<P: Pages> Store<P> {
         requires sound { shown.IsSound self.old }
         requires idle { shown.SelectsNone self.old }
         requires is_edit { IsEdit edit.now }
-        ensures answered { shown.ForBook self.old (λ total book. shown.Answers (apply book total edit.now) total book result self.old self.new) }
+        ensures answered { shown.ForBook self.old (λ total book. shown.Answers
+            (apply book total edit.now) total book result self.old self.new) }
         ensures carried { shown.CarriesOut result self.old self.new }
         ensures quiet { OnOk result ((shown.view self.new).faults ≡ (shown.view self.old).faults) }
         ensures quiet_err { IfErr result (λ e. e ≢ StoreError.DiskFault → (shown.view self.new).faults ≡ (shown.view self.old).faults) }
-        ensures none_cleared { shown.ForBook self.old (λ total book. ClearsNone book edit.now → CommitsNone (shown.view self.old) (shown.view self.new)) }
-        ensures kept { shown.ForBook self.old (λ total book. KeepsBook book (apply book total edit.now) → CommitsNone (shown.view self.old) (shown.view self.new)) }
+        ensures none_cleared { shown.ForBook self.old (λ total book. ClearsNone book edit.now
+            → CommitsNone (shown.view self.old) (shown.view self.new)) }
+        ensures kept { shown.ForBook self.old (λ total book. KeepsBook book (apply book total edit.now)
+            → CommitsNone (shown.view self.old) (shown.view self.new)) }
         ensures idle { shown.SelectsNone self.new }
         ensures more { length (shown.catalog self.old) ≤ length (shown.catalog self.new) }
     {

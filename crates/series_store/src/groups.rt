@@ -1,5 +1,6 @@
 //! Edits that stand ready are done together, in one commit.
-ghost use Rattle.std.specs.Prelude.{◌≡◌, ◌≤◌, ◌<◌, ◌+◌, ◌*◌, ◌++◌, ◌∷◌, [], None, List, Result, true, false, is_err, IsTrue, All, length, take, IfOk, IfErr, OnOk, OnErr, ◌≢◌};
+ghost use Rattle.std.specs.Prelude.{◌≡◌, ◌≤◌, ◌<◌, ◌+◌, ◌*◌, ◌++◌, ◌∷◌, [], None, List, Result, true, false, is_err, IsTrue, All, length};
+ghost use Rattle.std.specs.Prelude.{take, IfOk, IfErr, OnOk, OnErr, ◌≢◌};
 ghost use Rattle.block_disk.specs.Counts.{HasRisen};
 ghost use Rattle.page_space.specs.Shown as spaces;
 ghost use Rattle.page_space.specs.Transactions.{held, told_by};
@@ -9,7 +10,8 @@ ghost use Rattle.series_book.specs.declared.refusals.Refusal.{Refusal};
 ghost use Rattle.series_book.specs.Edits.{IsEdit};
 ghost use Rattle.series_catalog.specs.Shown.{series_in};
 ghost use Rattle.series_store.specs.Grouping as grouping;
-ghost use Rattle.series_store.specs.Groups.{AreDone, AreSome, AreMany, PassesWhole, IsGroupCause, ChangeNone, HaveFewSlots, PassesUntil, RefuseLast};
+ghost use Rattle.series_store.specs.Groups.{AreDone, AreSome, AreMany, PassesWhole, IsGroupCause, ChangeNone, HaveFewSlots, PassesUntil};
+ghost use Rattle.series_store.specs.Groups.{RefuseLast};
 ghost use Rattle.series_store.specs.Opening.{IsOutside};
 ghost use Rattle.series_store.specs.Results.{IsUnchangedFor};
 ghost use Rattle.series_store.specs.Shown as shown;
@@ -63,10 +65,12 @@ fn stage_next<P: Pages>(
     requires staged { stages.IsStaged space.old txn.old catalog.old }
     requires room { stages.HasRoomFor (length (held txn.old)) (series_in catalog.old) edit.now }
     requires is_edit { IsEdit edit.now }
-    ensures next { grouping.GoesNext result space.old space.new txn.old txn.new catalog.old catalog.new answers.old.items answers.new.items }
+    ensures next { grouping.GoesNext result space.old space.new txn.old txn.new catalog.old catalog.new answers.old.items
+        answers.new.items }
     ensures quiet { OnOk result ((spaces.view space.new).faults ≡ (spaces.view space.old).faults) }
     ensures quiet_err { IfErr result (λ e. e ≢ StoreError.DiskFault → (spaces.view space.new).faults ≡ (spaces.view space.old).faults) }
-    ensures answered { stages.ForStaged space.old txn.old (λ total book. grouping.AnswersNext total book edit.now result space.new txn.old txn.new answers.old.items answers.new.items) }
+    ensures answered { stages.ForStaged space.old txn.old
+        (λ total book. grouping.AnswersNext total book edit.now result space.new txn.old txn.new answers.old.items answers.new.items) }
 {
     answers.reserve(1)?;
     match stage(space, txn, catalog, edit) {
@@ -108,7 +112,8 @@ fn close<P: Pages>(space: &mut Space<P>, txn: Txn, is_changed: bool) -> Result<(
 
 /// Whether the last answer is a refusal.
 fn is_refused(answers: &[Result<Outcome, Refusal>]) -> bool
-    ensures { (before : List (Result Outcome Refusal)) (answer : Result Outcome Refusal) → answers.now ≡ before ++ answer ∷ [] → result ≡ is_err answer }
+    ensures { (before : List (Result Outcome Refusal)) (answer : Result Outcome Refusal) → answers.now ≡ before ++ answer ∷ []
+        → result ≡ is_err answer }
 {
     match answers.last() {
         Some(answer) => answer.is_err(),
@@ -118,7 +123,8 @@ fn is_refused(answers: &[Result<Outcome, Refusal>]) -> bool
 
 /// The edits that follow the answered ones: none where a refusal ends them and is the last answer.
 fn to_follow<'a>(ends: bool, answers: &[Result<Outcome, Refusal>], rest: &'a [Edit]) -> &'a [Edit]
-    ensures { (before : List (Result Outcome Refusal)) (answer : Result Outcome Refusal) → answers.now ≡ before ++ answer ∷ [] → grouping.Follow ends answer rest.now result.now }
+    ensures { (before : List (Result Outcome Refusal)) (answer : Result Outcome Refusal) → answers.now ≡ before ++ answer ∷ []
+        → grouping.Follow ends answer rest.now result.now }
 {
     if ends && is_refused(answers) {
         return &rest[rest.len()..];
@@ -144,7 +150,9 @@ fn commit_all<P: Pages>(
     ensures groups { grouping.Groups result space.old space.new txn catalog.old catalog.new edits.now answers.old.items answers.new.items }
     ensures quiet { OnOk result ((spaces.view space.new).faults ≡ (spaces.view space.old).faults) }
     ensures quiet_err { IfErr result (λ e. e ≢ StoreError.DiskFault → (spaces.view space.new).faults ≡ (spaces.view space.old).faults) }
-    ensures grouped { grouping.ForGroup space.old txn is_changed (λ total book. grouping.GroupsSo total book result space.old space.new txn ends is_changed edits.now answers.old.items answers.new.items) }
+    ensures grouped { grouping.ForGroup space.old txn is_changed
+        (λ total book. grouping.GroupsSo total book result space.old space.new txn ends is_changed edits.now answers.old.items
+        answers.new.items) }
 {
     let held = txn.len();
     let Some((edit, rest)) = edits.split_first() else {
@@ -183,21 +191,28 @@ impl<P: Pages> Store<P> {
         requires some { 0 < length edits.now }
         requires are_edits { All IsEdit edits.now }
         ensures covered { IfOk result (λ answers. AreSome edits.now (length answers.items)) }
-        ensures done { shown.ForBook self.old (λ total book. IfOk result (λ answers. AreDone total book edits.now answers.items (shown.image self.new))) }
+        ensures done { shown.ForBook self.old (λ total book. IfOk result
+            (λ answers. AreDone total book edits.now answers.items (shown.image self.new))) }
         ensures many { shown.ForBook self.old (λ total book. IfOk result (λ answers. AreMany total book edits.now (length answers.items))) }
         ensures outside { shown.ForBook self.old (λ total book. IfErr result IsOutside) }
         // a crash at any moment leaves none of the edits that are done, or all
-        ensures moments { shown.ForBook self.old (λ total book. IfOk result (λ answers. shown.PassesNoneOrAll total book edits.now (length answers.items) self.old self.new)) }
-        ensures whole { shown.ForBook self.old (λ total book. PassesWhole total book edits.now (shown.view self.old) (shown.view self.new)) }
-        ensures reads { shown.ForBook self.old (λ total book. (shown.view self.new).reads ≤ (shown.view self.old).reads + 96 * length edits.now) }
-        ensures few_reads { shown.ForBook self.old (λ total book. IfOk result (λ answers. (shown.view self.new).reads ≤ (shown.view self.old).reads + 96 * length answers.items)) }
+        ensures moments { shown.ForBook self.old (λ total book. IfOk result
+            (λ answers. shown.PassesNoneOrAll total book edits.now (length answers.items) self.old self.new)) }
+        ensures whole { shown.ForBook self.old (λ total book. PassesWhole total book edits.now (shown.view self.old)
+            (shown.view self.new)) }
+        ensures reads { shown.ForBook self.old (λ total book.
+            (shown.view self.new).reads ≤ (shown.view self.old).reads + 96 * length edits.now) }
+        ensures few_reads { shown.ForBook self.old (λ total book. IfOk result
+            (λ answers. (shown.view self.new).reads ≤ (shown.view self.old).reads + 96 * length answers.items)) }
         // whatever the pages are, each edit is read for once at most, and the first one twice
         ensures most_reads { (shown.view self.new).reads ≤ (shown.view self.old).reads + 96 * (length edits.now + 1) }
         // edits that change no slot write and sync nothing
-        ensures idle { shown.ForBook self.old (λ total book. IfOk result (λ answers. ChangeNone total book (take (length answers.items) edits.now) → shown.WritesNone self.old self.new)) }
+        ensures idle { shown.ForBook self.old (λ total book. IfOk result
+            (λ answers. ChangeNone total book (take (length answers.items) edits.now) → shown.WritesNone self.old self.new)) }
         ensures moves { shown.MovesGroup self.old self.new }
         ensures goes_on { shown.TimeGoesOn self.old self.new }
-        ensures cause { IfErr result (λ e. IsGroupCause e (shown.IsTold self.old) (shown.numbers self.old) (shown.view self.old) (shown.view self.new)) }
+        ensures cause { IfErr result (λ e. IsGroupCause e (shown.IsTold self.old) (shown.numbers self.old) (shown.view self.old)
+            (shown.view self.new)) }
         ensures quiet { OnOk result ((shown.view self.new).faults ≡ (shown.view self.old).faults) }
         ensures quiet_err { IfErr result (λ e. e ≢ StoreError.DiskFault → (shown.view self.new).faults ≡ (shown.view self.old).faults) }
         ensures unchanged { IfErr result (λ e. IsUnchangedFor e (shown.IsTold self.old) (shown.view self.old) (shown.view self.new)) }
@@ -222,22 +237,30 @@ impl<P: Pages> Store<P> {
         requires some { 0 < length edits.now }
         requires are_edits { All IsEdit edits.now }
         ensures covered { IfOk result (λ answers. AreSome edits.now (length answers.items)) }
-        ensures done { shown.ForBook self.old (λ total book. IfOk result (λ answers. AreDone total book edits.now answers.items (shown.image self.new))) }
+        ensures done { shown.ForBook self.old (λ total book. IfOk result
+            (λ answers. AreDone total book edits.now answers.items (shown.image self.new))) }
         // no edit behind a refused one is done
-        ensures last { shown.ForBook self.old (λ total book. IfOk result (λ answers. RefuseLast total book (take (length answers.items) edits.now))) }
+        ensures last { shown.ForBook self.old (λ total book. IfOk result
+            (λ answers. RefuseLast total book (take (length answers.items) edits.now))) }
         ensures outside { shown.ForBook self.old (λ total book. IfErr result IsOutside) }
         // a crash at any moment leaves none of the edits that are done, or all
-        ensures moments { shown.ForBook self.old (λ total book. IfOk result (λ answers. shown.PassesNoneOrAll total book edits.now (length answers.items) self.old self.new)) }
-        ensures whole { shown.ForBook self.old (λ total book. PassesUntil total book edits.now (shown.view self.old) (shown.view self.new)) }
-        ensures reads { shown.ForBook self.old (λ total book. (shown.view self.new).reads ≤ (shown.view self.old).reads + 96 * length edits.now) }
-        ensures few_reads { shown.ForBook self.old (λ total book. IfOk result (λ answers. (shown.view self.new).reads ≤ (shown.view self.old).reads + 96 * length answers.items)) }
+        ensures moments { shown.ForBook self.old (λ total book. IfOk result
+            (λ answers. shown.PassesNoneOrAll total book edits.now (length answers.items) self.old self.new)) }
+        ensures whole { shown.ForBook self.old (λ total book. PassesUntil total book edits.now (shown.view self.old)
+            (shown.view self.new)) }
+        ensures reads { shown.ForBook self.old (λ total book.
+            (shown.view self.new).reads ≤ (shown.view self.old).reads + 96 * length edits.now) }
+        ensures few_reads { shown.ForBook self.old (λ total book. IfOk result
+            (λ answers. (shown.view self.new).reads ≤ (shown.view self.old).reads + 96 * length answers.items)) }
         // whatever the pages are, each edit is read for once at most, and the first one twice
         ensures most_reads { (shown.view self.new).reads ≤ (shown.view self.old).reads + 96 * (length edits.now + 1) }
         // edits that change no slot write and sync nothing
-        ensures idle { shown.ForBook self.old (λ total book. IfOk result (λ answers. ChangeNone total book (take (length answers.items) edits.now) → shown.WritesNone self.old self.new)) }
+        ensures idle { shown.ForBook self.old (λ total book. IfOk result
+            (λ answers. ChangeNone total book (take (length answers.items) edits.now) → shown.WritesNone self.old self.new)) }
         ensures moves { shown.MovesGroup self.old self.new }
         ensures goes_on { shown.TimeGoesOn self.old self.new }
-        ensures cause { IfErr result (λ e. IsGroupCause e (shown.IsTold self.old) (shown.numbers self.old) (shown.view self.old) (shown.view self.new)) }
+        ensures cause { IfErr result (λ e. IsGroupCause e (shown.IsTold self.old) (shown.numbers self.old) (shown.view self.old)
+            (shown.view self.new)) }
         ensures quiet { OnOk result ((shown.view self.new).faults ≡ (shown.view self.old).faults) }
         ensures quiet_err { IfErr result (λ e. e ≢ StoreError.DiskFault → (shown.view self.new).faults ≡ (shown.view self.old).faults) }
         ensures unchanged { IfErr result (λ e. IsUnchangedFor e (shown.IsTold self.old) (shown.view self.old) (shown.view self.new)) }
@@ -296,7 +319,8 @@ impl<P: Pages> Store<P> {
         ensures groups { grouping.CommitsGroup result self.old self.new edits.now answers.new.items }
         ensures quiet { OnOk result ((shown.view self.new).faults ≡ (shown.view self.old).faults) }
         ensures quiet_err { IfErr result (λ e. e ≢ StoreError.DiskFault → (shown.view self.new).faults ≡ (shown.view self.old).faults) }
-        ensures grouped { shown.ForBook self.old (λ total book. grouping.CommitsSo total book result self.old self.new edits.now ends answers.new.items) }
+        ensures grouped { shown.ForBook self.old (λ total book.
+            grouping.CommitsSo total book result self.old self.new edits.now ends answers.new.items) }
         ensures idle { shown.SelectsNone self.new }
     {
         let txn = self.begin()?;

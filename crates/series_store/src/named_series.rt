@@ -23,7 +23,8 @@ impl<P: Pages> Store<P> {
         ensures there { IsTrue (is_some result) ↔ (id < length (shown.catalog self.now)) }
         ensures books { shown.ForSoundBook self.now (λ total book. MatchOption result (slice_get book id ≡ None) (IsNamedSeries book id)) }
         // so it is by the catalog that was read
-        ensures stored { IfSome result (λ told. (one : StoredSeries) → slice_get (shown.catalog self.now) id ≡ Some one → IsStoredSeries one told) }
+        ensures stored { IfSome result (λ told. (one : StoredSeries) → slice_get (shown.catalog self.now) id ≡ Some one
+            → IsStoredSeries one told) }
     {
         if u32::from(id) >= self.len() {
             return None;

@@ -4,7 +4,8 @@ ghost use Rattle.block_disk.specs.Counts.{HasRisen};
 ghost use Rattle.gate_pages.specs.Pages.{GoesOn};
 ghost use Rattle.path_repair.specs.Standing.{ReadsMost};
 ghost use Rattle.series_book.specs.declared.one_series.Series.{Series};
-ghost use Rattle.series_store.specs.Opening.{pages_in, IsFirstPage, IsOpenCause, IsReadCause, IsOutside, MakesStore, space_error_of, catalog_error_of};
+ghost use Rattle.series_store.specs.Opening.{pages_in, IsFirstPage, IsOpenCause, IsReadCause, IsOutside, MakesStore, space_error_of};
+ghost use Rattle.series_store.specs.Opening.{catalog_error_of};
 ghost use Rattle.stored_book.specs.Standing.{StandsForBook};
 ghost use Rattle.tree_walk.specs.Walk.{FitsAny};
 ghost use Rattle.series_catalog.specs.Shown.{series_in};
@@ -71,7 +72,8 @@ impl<P: Pages> Store<P> {
         requires sound { (P.view pages).fit }
         requires many { 62 ≤ (P.view pages).size }
         ensures cause { IfErr result (λ back. IsOutside back.cause) }
-        ensures fault { IfErr result (λ back. back.cause ≡ StoreError.DiskFault → HasRisen (P.view pages).faults (P.view back.value).faults) }
+        ensures fault { IfErr result (λ back. back.cause ≡ StoreError.DiskFault
+            → HasRisen (P.view pages).faults (P.view back.value).faults) }
         ensures quiet { IfOk result (λ store. (shown.view store).faults ≡ (P.view pages).faults) }
         ensures quiet_err { IfErr result (λ back. back.cause ≢ StoreError.DiskFault → (P.view back.value).faults ≡ (P.view pages).faults) }
         ensures unsound { IfErr result (λ back. back.cause ≡ StoreError.DiskFault → (P.view back.value).fit → ⊥) }
@@ -121,7 +123,8 @@ impl<P: Pages> Store<P> {
         ensures quiet_err { IfErr result (λ back. back.cause ≢ StoreError.DiskFault → (P.view back.value).faults ≡ (P.view pages).faults) }
         ensures place { IfErr result (λ back. IsFirstPage back.cause) }
         ensures none { IfOk result (λ store. shown.SelectsNone store) }
-        ensures a_store { (total : ℕ) (book : List Series) → P.told pages → total ≤ (P.view pages).size → StandsForBook (P.view pages).image total book → IfErr result (λ back. IsOutside back.cause) }
+        ensures a_store { (total : ℕ) (book : List Series) → P.told pages → total ≤ (P.view pages).size
+            → StandsForBook (P.view pages).image total book → IfErr result (λ back. IsOutside back.cause) }
         ensures reads { ReadsMost 17 (P.told pages) (P.told (pages_in result)) (P.view pages) (P.view (pages_in result)) }
         ensures goes_on { GoesOn (P.under pages) (P.under (pages_in result)) }
     {
@@ -150,9 +153,11 @@ impl<P: Pages> Store<P> {
         requires trail { FitsAny trail }
         ensures place { IfErr result (λ back. IsFirstPage back.cause) }
         ensures none { IfOk result (λ store. shown.SelectsNone store) }
-        ensures cause { IfErr result (λ back. IsReadCause back.cause (spaces.IsTold space) (spaces.numbers space) (spaces.view space) (P.view back.value)) }
+        ensures cause { IfErr result (λ back. IsReadCause back.cause (spaces.IsTold space) (spaces.numbers space) (spaces.view space)
+            (P.view back.value)) }
         ensures quiet { IfOk result (λ store. (shown.view store).faults ≡ (spaces.view space).faults) }
-        ensures quiet_err { IfErr result (λ back. back.cause ≢ StoreError.DiskFault → (P.view back.value).faults ≡ (spaces.view space).faults) }
+        ensures quiet_err { IfErr result (λ back. back.cause ≢ StoreError.DiskFault
+            → (P.view back.value).faults ≡ (spaces.view space).faults) }
         ensures reads { ReadsMost 16 (spaces.IsTold space) (P.told (pages_in result)) (spaces.view space) (P.view (pages_in result)) }
         ensures goes_on { GoesOn (spaces.under space) (P.under (pages_in result)) }
     {

@@ -62,7 +62,8 @@ fn range_puts(slots: u64, first: u64, count: u64) -> u64
 fn run_puts(axis: Axis, place: u128, values: &Values) -> u64
     requires some { 0 < length values.now }
     requires few { axis.slots ≤ MOST_SLOTS }
-    ensures puts { (tree : Tree) → tree.slots ≡ axis.slots → length values.now ≤ MOST_VALUES → place + length values.now ≤ MOST_SLOTS → stages.puts_in tree place (place + length values.now) ≤ result }
+    ensures puts { (tree : Tree) → tree.slots ≡ axis.slots → length values.now ≤ MOST_VALUES → place + length values.now ≤ MOST_SLOTS
+        → stages.puts_in tree place (place + length values.now) ≤ result }
     ensures few { result ≤ 41 }
 {
     let count = values.as_slice().len();
@@ -75,7 +76,8 @@ fn run_puts(axis: Axis, place: u128, values: &Values) -> u64
 /// The same of a clear; nothing is staged where none of the slots is there.
 fn clear_puts(axis: Axis, place: u128, count: u64) -> u64
     requires few { axis.slots ≤ MOST_SLOTS }
-    ensures puts { (tree : Tree) → tree.slots ≡ axis.slots → 0 < count → count ≤ MOST_CLEARED → place < axis.slots → stages.puts_in tree place (min (place + count) axis.slots) ≤ result }
+    ensures puts { (tree : Tree) → tree.slots ≡ axis.slots → 0 < count → count ≤ MOST_CLEARED → place < axis.slots
+        → stages.puts_in tree place (min (place + count) axis.slots) ≤ result }
     ensures few { result ≤ 41 }
 {
     if count == 0 || count > MOST_CLEARED || place >= u128::from(axis.slots) {

@@ -1,5 +1,6 @@
 //! Changes of the slots of a series are staged.
-ghost use Rattle.std.specs.Prelude.{◌≡◌, ◌≢◌, ◌≤◌, ◌<◌, ◌+◌, ◌⊎◌, ◌↔◌, max, Option, Ok, All, false, IsTrue, IsSome, length, slice_get, IfOk, IfErr, OnOk, OnErr, IfSome};
+ghost use Rattle.std.specs.Prelude.{◌≡◌, ◌≢◌, ◌≤◌, ◌<◌, ◌+◌, ◌⊎◌, ◌↔◌, max, Option, Ok, All, false, IsTrue, IsSome, length, slice_get};
+ghost use Rattle.std.specs.Prelude.{IfOk, IfErr, OnOk, OnErr, IfSome};
 ghost use Rattle.whole_number.specs.SlotTimes.{EndsInTime};
 ghost use Rattle.block_disk.specs.Counts.{HasRisen};
 ghost use Rattle.page_space.specs.Shown as spaces;
@@ -59,13 +60,17 @@ pub(crate) fn put<P: Pages>(
     requires some { 0 < length values.now }
     requires short { length values.now ≤ 256 }
     requires within { slot + length values.now ≤ MOST_SLOTS }
-    requires last { IfSome (slice_get (series_in catalog.old) id) (λ one. EndsInTime one.start one.step (max one.tree.slots (slot + length values.now))) }
+    requires last { IfSome (slice_get (series_in catalog.old) id)
+        (λ one. EndsInTime one.start one.step (max one.tree.slots (slot + length values.now))) }
     requires values { All (λ value. is_too_large value ≡ false) values.now }
     // none of the slots before the last one is left as it is
-    requires whole { IfSome (slice_get (series_in catalog.old) id) (λ one. (slot ≡ one.tree.slots) ⊎ All (λ value. IsSome value) values.now) }
+    requires whole { IfSome (slice_get (series_in catalog.old) id) (λ one. (slot ≡ one.tree.slots)
+        ⊎ All (λ value. IsSome value) values.now) }
     ensures answered { stages.AnswersPut id slot values.now result space.old space.new txn.old txn.new }
     ensures carried { stages.Stages result space.old space.new txn.old txn.new catalog.old catalog.new }
-    ensures kept { stages.ForStagedSeries space.old txn.old id (λ total book series. KeepsBook book (after_put total book id series slot values.now) → IfOk result (λ it. it.undo ≡ Undo.Nothing)) }
+    ensures kept { stages.ForStagedSeries space.old txn.old id
+        (λ total book series. KeepsBook book (after_put total book id series slot values.now)
+        → IfOk result (λ it. it.undo ≡ Undo.Nothing)) }
     ensures quiet { OnOk result ((spaces.view space.new).faults ≡ (spaces.view space.old).faults) }
     ensures quiet_err { IfErr result (λ e. e ≢ StoreError.DiskFault → (spaces.view space.new).faults ≡ (spaces.view space.old).faults) }
 {
@@ -96,7 +101,8 @@ pub(crate) fn clear_slots<P: Pages>(
     requires within { IfSome (slice_get (series_in catalog.old) id) (λ one. slot + count ≤ one.tree.slots) }
     ensures answered { stages.AnswersCleared id slot count result space.old space.new txn.old txn.new }
     ensures carried { stages.Stages result space.old space.new txn.old txn.new catalog.old catalog.new }
-    ensures kept { stages.ForStagedSeries space.old txn.old id (λ total book series. KeepsBook book (Ok (with_cleared book id series slot count)) → IfOk result (λ it. it.undo ≡ Undo.Nothing)) }
+    ensures kept { stages.ForStagedSeries space.old txn.old id
+        (λ total book series. KeepsBook book (Ok (with_cleared book id series slot count)) → IfOk result (λ it. it.undo ≡ Undo.Nothing)) }
     ensures quiet { OnOk result ((spaces.view space.new).faults ≡ (spaces.view space.old).faults) }
     ensures quiet_err { IfErr result (λ e. e ≢ StoreError.DiskFault → (spaces.view space.new).faults ≡ (spaces.view space.old).faults) }
 {
@@ -121,10 +127,12 @@ fn save<P: Pages>(
     requires staged { stages.IsStaged space.old txn.old catalog.old }
     requires room { length (held txn.old) < 64 }
     requires there { id < length (series_in catalog.old) }
-    requires entry { IfSome (slice_get (series_in catalog.old) id) (λ one. IsEntry (told_by txn.old).fresh (entry_of (record one { tree = tree }))) }
+    requires entry { IfSome (slice_get (series_in catalog.old) id)
+        (λ one. IsEntry (told_by txn.old).fresh (entry_of (record one { tree = tree }))) }
     ensures stands { stages.StandsChanged id tree result space.old space.new txn.old txn.new catalog.old }
     ensures staged { OnOk result (stages.IsStaged space.new txn.new catalog.new) }
-    ensures back { IfOk result (λ staged. (staged.undo ≢ Undo.Nothing) × TakesBack staged.undo (series_in catalog.new) (series_in catalog.old)) }
+    ensures back { IfOk result (λ staged. (staged.undo ≢ Undo.Nothing)
+        × TakesBack staged.undo (series_in catalog.new) (series_in catalog.old)) }
     ensures kept { OnErr result (series_in catalog.new ≡ series_in catalog.old) }
     ensures slots { IfOk result (λ staged. staged.outcome.slots ≡ tree.slots) }
     ensures superblock { told_by txn.new ≡ told_by txn.old }

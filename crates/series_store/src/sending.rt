@@ -6,7 +6,8 @@ ghost use Rattle.page_space.specs.Shown as spaces;
 ghost use Rattle.path_repair.specs.Keeping.{IsMatched};
 ghost use Rattle.tree_walk.specs.Trees.{top_of_page};
 ghost use Rattle.series_book.specs.declared.limits.TheConstants.{MOST_SLOTS};
-ghost use Rattle.series_store.specs.Sending.{CutsBelow, first_said, ForFitBelow, ForListBelow, GivesMore, IsNoDamage, IsSendCause, IsSilent, IsTextCause, may_be_said_in, SendsBelow, SendsBy};
+ghost use Rattle.series_store.specs.Sending.{CutsBelow, first_said, ForFitBelow, ForListBelow, GivesMore, IsNoDamage, IsSendCause};
+ghost use Rattle.series_store.specs.Sending.{IsSilent, IsTextCause, may_be_said_in, SendsBelow, SendsBy};
 
 use crate::counting::read_page;
 use crate::send_errors::SendError;
@@ -32,7 +33,8 @@ pub(crate) fn send_waiting<P: PageWorld>(
     ensures gives { GivesMore (λ text. text) result space.old space.new out.old.items out.new.items }
     ensures cause { IfErr result (λ e. IsTextCause e (spaces.view space.old) (spaces.view space.new)) }
     ensures quiet { (spaces.view space.new).faults ≡ (spaces.view space.old).faults }
-    ensures quiet_sends { result ≢ Err SendError.SendFault → (spaces.view space.new).beside.send_faults ≡ (spaces.view space.old).beside.send_faults }
+    ensures quiet_sends { result ≢ Err SendError.SendFault
+        → (spaces.view space.new).beside.send_faults ≡ (spaces.view space.old).beside.send_faults }
 {
     let Ok(()) = space.send(out.as_slice()) else {
         return Err(SendError::SendFault);
@@ -56,7 +58,8 @@ fn send_value<P: PageWorld, T: Texts>(
     ensures gives { GivesMore (λ text. text ++ T.text texts.now slot value) result space.old space.new out.old.items out.new.items }
     ensures cause { IfErr result (λ e. IsTextCause e (spaces.view space.old) (spaces.view space.new)) }
     ensures quiet { (spaces.view space.new).faults ≡ (spaces.view space.old).faults }
-    ensures quiet_sends { result ≢ Err SendError.SendFault → (spaces.view space.new).beside.send_faults ≡ (spaces.view space.old).beside.send_faults }
+    ensures quiet_sends { result ≢ Err SendError.SendFault
+        → (spaces.view space.new).beside.send_faults ≡ (spaces.view space.old).beside.send_faults }
 {
     texts.add(slot, value, out)?;
     if out.len() < PIECE {
@@ -70,7 +73,8 @@ fn may_say<T: Texts>(level: u8, index: u64, slots: u64, texts: &T) -> bool
     requires level { level ≤ 5 }
     requires few { end_slot (top_of_page level index) ≤ MOST_SLOTS }
     requires slots { slots ≤ T.slots texts.now }
-    ensures silent { result ≡ false → IsSilent (first_said slots (T.text texts.now)) (first_slot (top_of_page level index)) (end_slot (top_of_page level index)) }
+    ensures silent { result ≡ false → IsSilent (first_said slots (T.text texts.now)) (first_slot (top_of_page level index))
+        (end_slot (top_of_page level index)) }
     ensures within { IsTrue result → first_slot (top_of_page level index) < slots }
     ensures may { result ≡ may_be_said_in (T.may_be_said texts.now) slots level index }
 {
@@ -106,12 +110,17 @@ pub(crate) fn send_below<P: PageWorld, T: Texts>(
     requires few { length out.old.items < 16384 }
     ensures few { OnOk result (length out.new.items < 16384) }
     ensures sends { SendsBy space.old space.new }
-    ensures cause { IfErr result (λ e. IsSendCause e (spaces.IsTold space.old) (spaces.view space.old) (spaces.view space.new) (spaces.total space.old) level page top) }
+    ensures cause { IfErr result (λ e. IsSendCause e (spaces.IsTold space.old) (spaces.view space.old) (spaces.view space.new)
+        (spaces.total space.old) level page top) }
     ensures quiet { OnOk result ((spaces.view space.new).faults ≡ (spaces.view space.old).faults) }
     ensures quiet_err { IfErr result (λ e. e ≢ SendError.DiskFault → (spaces.view space.new).faults ≡ (spaces.view space.old).faults) }
-    ensures quiet_sends { result ≢ Err SendError.SendFault → (spaces.view space.new).beside.send_faults ≡ (spaces.view space.old).beside.send_faults }
-    ensures part { ForFitBelow space.old level index page top (SendsBelow (first_said slots (T.text texts.now)) (T.may_be_said texts.now) slots level index space.old space.new out.old.items out.new.items result) }
-    ensures cut { ForFitBelow space.old level index page top (CutsBelow (first_said slots (T.text texts.now)) level index page top space.old space.new out.old.items out.new.items result) }
+    ensures quiet_sends { result ≢ Err SendError.SendFault
+        → (spaces.view space.new).beside.send_faults ≡ (spaces.view space.old).beside.send_faults }
+    ensures part { ForFitBelow space.old level index page top
+        (SendsBelow (first_said slots (T.text texts.now))
+        (T.may_be_said texts.now) slots level index space.old space.new out.old.items out.new.items result) }
+    ensures cut { ForFitBelow space.old level index page top
+        (CutsBelow (first_said slots (T.text texts.now)) level index page top space.old space.new out.old.items out.new.items result) }
     ensures no_damage { ForListBelow space.old level index page top (λ list. IfErr result IsNoDamage) }
 {
     let Some(span) = top else {

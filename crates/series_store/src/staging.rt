@@ -36,8 +36,10 @@ pub(crate) fn stage<P: Pages>(
     ensures quiet { OnOk result ((spaces.view space.new).faults ≡ (spaces.view space.old).faults) }
     ensures quiet_err { IfErr result (λ e. e ≢ StoreError.DiskFault → (spaces.view space.new).faults ≡ (spaces.view space.old).faults) }
     // an edit that changes no slot stages nothing
-    ensures none_cleared { stages.ForStaged space.old txn.old (λ total book. ClearsNone book edit.now → IfOk result (λ staged. staged.undo ≡ Undo.Nothing)) }
-    ensures kept { stages.ForStaged space.old txn.old (λ total book. KeepsBook book (apply book total edit.now) → IfOk result (λ staged. staged.undo ≡ Undo.Nothing)) }
+    ensures none_cleared { stages.ForStaged space.old txn.old (λ total book. ClearsNone book edit.now
+        → IfOk result (λ staged. staged.undo ≡ Undo.Nothing)) }
+    ensures kept { stages.ForStaged space.old txn.old (λ total book. KeepsBook book (apply book total edit.now)
+        → IfOk result (λ staged. staged.undo ≡ Undo.Nothing)) }
 {
     match edit {
         Edit::Create {
@@ -65,7 +67,8 @@ fn append<P: Pages>(
     requires is_edit { IsEdit (Append name.now values.now) }
     ensures answered { stages.AnswersEdit (Append name.now values.now) result space.old space.new txn.old txn.new }
     ensures carried { stages.Stages result space.old space.new txn.old txn.new catalog.old catalog.new }
-    ensures kept { stages.ForStaged space.old txn.old (λ total book. KeepsBook book (apply book total (Append name.now values.now)) → IfOk result (λ staged. staged.undo ≡ Undo.Nothing)) }
+    ensures kept { stages.ForStaged space.old txn.old (λ total book. KeepsBook book (apply book total (Append name.now values.now))
+        → IfOk result (λ staged. staged.undo ≡ Undo.Nothing)) }
     ensures quiet { OnOk result ((spaces.view space.new).faults ≡ (spaces.view space.old).faults) }
     ensures quiet_err { IfErr result (λ e. e ≢ StoreError.DiskFault → (spaces.view space.new).faults ≡ (spaces.view space.old).faults) }
 {
@@ -94,7 +97,8 @@ fn set<P: Pages>(
     requires is_edit { IsEdit (Set name.now time values.now) }
     ensures answered { stages.AnswersEdit (Set name.now time values.now) result space.old space.new txn.old txn.new }
     ensures carried { stages.Stages result space.old space.new txn.old txn.new catalog.old catalog.new }
-    ensures kept { stages.ForStaged space.old txn.old (λ total book. KeepsBook book (apply book total (Set name.now time values.now)) → IfOk result (λ staged. staged.undo ≡ Undo.Nothing)) }
+    ensures kept { stages.ForStaged space.old txn.old (λ total book. KeepsBook book (apply book total (Set name.now time values.now))
+        → IfOk result (λ staged. staged.undo ≡ Undo.Nothing)) }
     ensures quiet { OnOk result ((spaces.view space.new).faults ≡ (spaces.view space.old).faults) }
     ensures quiet_err { IfErr result (λ e. e ≢ StoreError.DiskFault → (spaces.view space.new).faults ≡ (spaces.view space.old).faults) }
 {
@@ -123,10 +127,12 @@ fn clear<P: Pages>(
     requires room { stages.HasRoomFor (length (held txn.old)) (series_in catalog.old) (Clear name.now time count) }
     ensures answered { stages.AnswersEdit (Clear name.now time count) result space.old space.new txn.old txn.new }
     ensures carried { stages.Stages result space.old space.new txn.old txn.new catalog.old catalog.new }
-    ensures kept { stages.ForStaged space.old txn.old (λ total book. KeepsBook book (apply book total (Clear name.now time count)) → IfOk result (λ staged. staged.undo ≡ Undo.Nothing)) }
+    ensures kept { stages.ForStaged space.old txn.old (λ total book. KeepsBook book (apply book total (Clear name.now time count))
+        → IfOk result (λ staged. staged.undo ≡ Undo.Nothing)) }
     ensures quiet { OnOk result ((spaces.view space.new).faults ≡ (spaces.view space.old).faults) }
     ensures quiet_err { IfErr result (λ e. e ≢ StoreError.DiskFault → (spaces.view space.new).faults ≡ (spaces.view space.old).faults) }
-    ensures none_cleared { stages.ForStaged space.old txn.old (λ total book. ClearsNone book (Clear name.now time count) → IfOk result (λ staged. staged.undo ≡ Undo.Nothing)) }
+    ensures none_cleared { stages.ForStaged space.old txn.old (λ total book. ClearsNone book (Clear name.now time count)
+        → IfOk result (λ staged. staged.undo ≡ Undo.Nothing)) }
 {
     let Some(id) = catalog.find(name) else {
         return Err(StoreError::Refused(Refusal::UnknownSeries));

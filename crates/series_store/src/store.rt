@@ -29,7 +29,8 @@ pub struct Store<P: Pages> {
     ghost count: { length (series_in catalog) ≡ (spaces.numbers space).series },
     ghost fits: { AreFit (spaces.numbers space).fresh (series_in catalog) } by { Prim.hlevel props },
     ghost told: { spaces.IsSound space → spaces.IsTold space → AreAsTold (spaces.image space) (series_in catalog) },
-    ghost whole: { spaces.IsSound space → spaces.IsTold space → AreCatalog (spaces.image space) (spaces.numbers space).fresh (spaces.numbers space).series },
+    ghost whole: { spaces.IsSound space → spaces.IsTold space
+        → AreCatalog (spaces.image space) (spaces.numbers space).fresh (spaces.numbers space).series },
     ghost few: { tree.slots ≤ MOST_SLOTS },
     ghost root: { tree.root < spaces.total space },
     ghost proper: { IsProperIfAny tree.span } by { Prim.hlevel props },

@@ -99,7 +99,8 @@ impl<P: Pages> Store<P> {
         ensures none { IfSome result (λ info. info.slots ≡ 0 → info.span ≡ None) }
         ensures info { shown.ForSoundBook self.now (λ total book. MatchOption result (id_of name.now book ≡ None) (IsFound name.now book)) }
         // so it is by the catalog that was read
-        ensures named { MatchOption result (LacksName (shown.catalog self.now) name.now) (λ info. IsNamedAt (shown.catalog self.now) name.now info.id) }
+        ensures named { MatchOption result (LacksName (shown.catalog self.now) name.now)
+            (λ info. IsNamedAt (shown.catalog self.now) name.now info.id) }
     {
         let id = self.catalog.find(name)?;
         Some(self.info(id))
@@ -111,7 +112,8 @@ impl<P: Pages> Store<P> {
         ensures space { shown.SamePages self.old self.new }
         ensures catalog { shown.SameCatalog self.old self.new }
         ensures fit { shown.IsSound self.new → (shown.nodes self.new).fit }
-        ensures slots { (series : StoredSeries) → slice_get (shown.catalog self.old) id ≡ Some series → shown.selected self.new ≡ series.tree }
+        ensures slots { (series : StoredSeries) → slice_get (shown.catalog self.old) id ≡ Some series
+            → shown.selected self.new ≡ series.tree }
         ensures agrees { shown.ForSoundSeries self.old id (λ total book series. Agrees (shown.nodes self.new) series.slots) }
     {
         self.trail.forget();

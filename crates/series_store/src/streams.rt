@@ -31,11 +31,14 @@ impl<P: PageWorld> Streams for Store<P> {
 
     ghost takes_none = { λ at. shown.keeps_none at (P.takes_none (shown.pages at)) };
 
-    ghost takes_then = { λ old between new. shown.keeps_then old between new (P.takes_then (shown.pages old) (shown.pages between) (shown.pages new)) };
+    ghost takes_then = { λ old between new. shown.keeps_then old between new
+        (P.takes_then (shown.pages old) (shown.pages between) (shown.pages new)) };
 
     ghost sends_none = { λ at. shown.keeps_none at (P.sends_none (shown.pages at)) };
 
-    ghost sends_more = { λ count more old new within. shown.keeps_so old new (P.sends_more count more (shown.pages old) (shown.pages new) within) };
+    ghost sends_more = { λ count more old new within. shown.keeps_so old new
+        (P.sends_more count more (shown.pages old) (shown.pages new) within) };
 
-    ghost sends_then = { λ first second old between new. shown.keeps_then old between new (P.sends_then first second (shown.pages old) (shown.pages between) (shown.pages new)) };
+    ghost sends_then = { λ first second old between new. shown.keeps_then old between new
+        (P.sends_then first second (shown.pages old) (shown.pages between) (shown.pages new)) };
 }

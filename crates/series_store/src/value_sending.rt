@@ -8,7 +8,8 @@ ghost use Rattle.path_repair.specs.Keeping.{IsMatched};
 ghost use Rattle.series_book.specs.declared.limits.TheConstants.{MOST_SLOTS};
 ghost use Rattle.series_catalog.specs.declared.stored_series.StoredSeries.{StoredSeries};
 ghost use Rattle.tree_walk.specs.Trees.{StandsFor};
-ghost use Rattle.series_store.specs.Sending.{texts_of, pages_said, CutsSeries, HasUnfitFrom, IsCauseOf, SendsCut, SendsBy, SendsOn, IsSeriesCause, IsNoDamage};
+ghost use Rattle.series_store.specs.Sending.{texts_of, pages_said, CutsSeries, HasUnfitFrom, IsCauseOf, SendsCut, SendsBy, SendsOn};
+ghost use Rattle.series_store.specs.Sending.{IsSeriesCause, IsNoDamage};
 ghost use Rattle.series_store.specs.Shown as shown;
 ghost use Rattle.series_store.specs.WhereFit.{StandsWhereFit};
 
@@ -36,20 +37,30 @@ fn send_tree<P: PageWorld, T: Texts>(
     requires proper { IsProperIfAny tree.span }
     requires matched { IsMatched tree.root tree.span }
     requires few { length out.old.items < 16384 }
-    ensures sent { (list : List (Option ℤ)) → spaces.IsTold space.old → StandsWhereFit (spaces.view space.old).image (spaces.total space.old) tree list
-        → OnOk result ((spaces.view space.new).beside.sent ≡ sent_after (out.old.items ++ texts_of (T.text texts.now) list) (spaces.view space.old).beside.sent) }
-    ensures part { (list : List (Option ℤ)) → spaces.IsTold space.old → StandsWhereFit (spaces.view space.old).image (spaces.total space.old) tree list
-        → OnErr result (PartSent (out.old.items ++ texts_of (T.text texts.now) list) (spaces.view space.old).beside.sent (spaces.view space.new).beside.sent) }
-    ensures cut { (list : List (Option ℤ)) → spaces.IsTold space.old → StandsWhereFit (spaces.view space.old).image (spaces.total space.old) tree list
-        → IfErr result (λ e. SendsCut e (HasUnfitFrom (spaces.view space.old).image (spaces.total space.old) (page_levels tree.slots) 0 tree.root tree.span) (T.text texts.now) list out.old.items (spaces.view space.old).beside.sent (spaces.view space.new).beside.sent) }
-    ensures no_damage { (list : List (Option ℤ)) → spaces.IsTold space.old → StandsFor (spaces.view space.old).image (spaces.total space.old) tree list → IfErr result IsNoDamage }
-    ensures reads { (list : List (Option ℤ)) → spaces.IsTold space.old → StandsWhereFit (spaces.view space.old).image (spaces.total space.old) tree list
+    ensures sent { (list : List (Option ℤ)) → spaces.IsTold space.old
+        → StandsWhereFit (spaces.view space.old).image (spaces.total space.old) tree list
+        → OnOk result ((spaces.view space.new).beside.sent ≡ sent_after (out.old.items ++ texts_of (T.text texts.now) list)
+        (spaces.view space.old).beside.sent) }
+    ensures part { (list : List (Option ℤ)) → spaces.IsTold space.old
+        → StandsWhereFit (spaces.view space.old).image (spaces.total space.old) tree list
+        → OnErr result (PartSent (out.old.items ++ texts_of (T.text texts.now) list) (spaces.view space.old).beside.sent
+        (spaces.view space.new).beside.sent) }
+    ensures cut { (list : List (Option ℤ)) → spaces.IsTold space.old
+        → StandsWhereFit (spaces.view space.old).image (spaces.total space.old) tree list
+        → IfErr result (λ e. SendsCut e (HasUnfitFrom (spaces.view space.old).image (spaces.total space.old)
+        (page_levels tree.slots) 0 tree.root tree.span) (T.text texts.now) list out.old.items (spaces.view space.old).beside.sent
+        (spaces.view space.new).beside.sent) }
+    ensures no_damage { (list : List (Option ℤ)) → spaces.IsTold space.old
+        → StandsFor (spaces.view space.old).image (spaces.total space.old) tree list → IfErr result IsNoDamage }
+    ensures reads { (list : List (Option ℤ)) → spaces.IsTold space.old
+        → StandsWhereFit (spaces.view space.old).image (spaces.total space.old) tree list
         → (spaces.view space.new).reads ≤ (spaces.view space.old).reads + pages_said (T.may_be_said texts.now) list }
     ensures sends { SendsBy space.old space.new }
     ensures cause { IfErr result (IsCauseOf tree space.old space.new) }
     ensures quiet { OnOk result ((spaces.view space.new).faults ≡ (spaces.view space.old).faults) }
     ensures quiet_err { IfErr result (λ e. e ≢ SendError.DiskFault → (spaces.view space.new).faults ≡ (spaces.view space.old).faults) }
-    ensures quiet_sends { result ≢ Err SendError.SendFault → (spaces.view space.new).beside.send_faults ≡ (spaces.view space.old).beside.send_faults }
+    ensures quiet_sends { result ≢ Err SendError.SendFault
+        → (spaces.view space.new).beside.send_faults ≡ (spaces.view space.old).beside.send_faults }
 {
     let levels = page_levels(tree.slots);
     match send_below(
@@ -84,21 +95,27 @@ impl<P: PageWorld> Store<P> {
     ) -> Result<(), SendError>
         requires sound { (shown.view self.old).fit }
         requires there { id < length (shown.catalog self.old) }
-        requires slots { (series : StoredSeries) → slice_get (shown.catalog self.old) id ≡ Some series → series.tree.slots ≤ T.slots texts.now }
+        requires slots { (series : StoredSeries) → slice_get (shown.catalog self.old) id ≡ Some series
+            → series.tree.slots ≤ T.slots texts.now }
         requires few { length out.old.items < 16384 }
         ensures sent { shown.ForFit self.old id (λ series.
-            OnOk result (P.sent (shown.pages self.new) ≡ sent_after (out.old.items ++ texts_of (T.text texts.now) series.slots) (P.sent (shown.pages self.old)))) }
+            OnOk result (P.sent (shown.pages self.new)
+            ≡ sent_after (out.old.items ++ texts_of (T.text texts.now) series.slots) (P.sent (shown.pages self.old)))) }
         ensures part { shown.ForFit self.old id (λ series.
-            OnErr result (PartSent (out.old.items ++ texts_of (T.text texts.now) series.slots) (P.sent (shown.pages self.old)) (P.sent (shown.pages self.new)))) }
+            OnErr result (PartSent (out.old.items ++ texts_of (T.text texts.now) series.slots)
+            (P.sent (shown.pages self.old)) (P.sent (shown.pages self.new)))) }
         // where a page is damaged, all that is said of the values before its slots was sent
         ensures cut { shown.ForFit self.old id (λ series. IfErr result (λ e. CutsSeries e (shown.image self.old) (shown.total self.old) id
             (T.text texts.now) series.slots out.old.items (P.sent (shown.pages self.old)) (P.sent (shown.pages self.new)))) }
         ensures no_damage { shown.ForKept self.old id (λ series. IfErr result IsNoDamage) }
-        ensures reads { shown.ForFit self.old id (λ series. (shown.view self.new).reads ≤ (shown.view self.old).reads + pages_said (T.may_be_said texts.now) series.slots) }
-        ensures cause { IfErr result (λ e. IsSeriesCause e (shown.IsTold self.old) (shown.numbers self.old) id (shown.view self.old) (shown.view self.new)) }
+        ensures reads { shown.ForFit self.old id (λ series. (shown.view self.new).reads ≤ (shown.view self.old).reads + pages_said
+            (T.may_be_said texts.now) series.slots) }
+        ensures cause { IfErr result (λ e. IsSeriesCause e (shown.IsTold self.old) (shown.numbers self.old) id (shown.view self.old)
+            (shown.view self.new)) }
         ensures quiet { OnOk result ((shown.view self.new).faults ≡ (shown.view self.old).faults) }
         ensures quiet_err { IfErr result (λ e. e ≢ SendError.DiskFault → (shown.view self.new).faults ≡ (shown.view self.old).faults) }
-        ensures quiet_sends { result ≢ Err SendError.SendFault → (shown.view self.new).beside.send_faults ≡ (shown.view self.old).beside.send_faults }
+        ensures quiet_sends { result ≢ Err SendError.SendFault
+            → (shown.view self.new).beside.send_faults ≡ (shown.view self.old).beside.send_faults }
         ensures sends { SendsOn self.old self.new }
         ensures catalog { self.new.catalog ≡ self.old.catalog }
         ensures selected { (self.new.tree ≡ self.old.tree) × (self.new.trail ≡ self.old.trail) }

@@ -85,10 +85,14 @@ fn add_below<P: Pages>(
     requires matched { 1 ≤ level → IsMatched page top }
     ensures looks { looks.OnlyLooks space.old space.new }
     ensures reads { (spaces.view space.new).reads ≤ (spaces.view space.old).reads + pages_met from to level index }
-    ensures some { AreOfSome from (reach from to (first_slot (top_of_page level index))) values.old → OnOk result (AreOfSome from (reach from to (end_slot (top_of_page level index))) values.new) }
-    ensures values { ForListBelow space.old level index page top (λ list. AreBelow list from to (first_slot (top_of_page level index)) values.old → OnOk result (AreBelow list from to (end_slot (top_of_page level index)) values.new)) }
+    ensures some { AreOfSome from (reach from to (first_slot (top_of_page level index))) values.old
+        → OnOk result (AreOfSome from (reach from to (end_slot (top_of_page level index))) values.new) }
+    ensures values { ForListBelow space.old level index page top
+        (λ list. AreBelow list from to (first_slot (top_of_page level index)) values.old
+        → OnOk result (AreBelow list from to (end_slot (top_of_page level index)) values.new)) }
     ensures stands { ForListBelow space.old level index page top (λ list. IfErr result IsOutside) }
-    ensures cause { IfErr result (λ e. IsTreeWindowCause e (spaces.IsTold space.old) (spaces.view space.old) (spaces.view space.new) (spaces.total space.old) level page top) }
+    ensures cause { IfErr result (λ e. IsTreeWindowCause e (spaces.IsTold space.old) (spaces.view space.old) (spaces.view space.new)
+        (spaces.total space.old) level page top) }
     ensures quiet { OnOk result ((spaces.view space.new).faults ≡ (spaces.view space.old).faults) }
     ensures quiet_err { IfErr result (λ e. e ≢ StoreError.DiskFault → (spaces.view space.new).faults ≡ (spaces.view space.old).faults) }
 {
@@ -132,9 +136,13 @@ fn add_window<P: Pages>(
     ensures looks { looks.OnlyLooks space.old space.new }
     ensures reads { (spaces.view space.new).reads ≤ (spaces.view space.old).reads + 36 }
     ensures some { OnOk result (AreOfSome from (to - from) values.new) }
-    ensures values { (list : List (Option ℤ)) → spaces.IsTold space.old → StandsFor (spaces.view space.old).image (spaces.total space.old) tree list → OnOk result (AreOf from (window list from to) values.new) }
-    ensures stands { (list : List (Option ℤ)) → spaces.IsTold space.old → StandsFor (spaces.view space.old).image (spaces.total space.old) tree list → IfErr result IsOutside }
-    ensures cause { IfErr result (λ e. IsTreeWindowCause e (spaces.IsTold space.old) (spaces.view space.old) (spaces.view space.new) (spaces.total space.old) (page_levels tree.slots) tree.root tree.span) }
+    ensures values { (list : List (Option ℤ)) → spaces.IsTold space.old
+        → StandsFor (spaces.view space.old).image (spaces.total space.old) tree list
+        → OnOk result (AreOf from (window list from to) values.new) }
+    ensures stands { (list : List (Option ℤ)) → spaces.IsTold space.old
+        → StandsFor (spaces.view space.old).image (spaces.total space.old) tree list → IfErr result IsOutside }
+    ensures cause { IfErr result (λ e. IsTreeWindowCause e (spaces.IsTold space.old) (spaces.view space.old) (spaces.view space.new)
+        (spaces.total space.old) (page_levels tree.slots) tree.root tree.span) }
     ensures quiet { OnOk result ((spaces.view space.new).faults ≡ (spaces.view space.old).faults) }
     ensures quiet_err { IfErr result (λ e. e ≢ StoreError.DiskFault → (spaces.view space.new).faults ≡ (spaces.view space.old).faults) }
 {
@@ -159,7 +167,8 @@ impl<P: Pages> Store<P> {
         // whatever the pages are
         ensures some { IfOk result (AreOfSome from (to - from)) }
         ensures reads { (shown.view self.new).reads ≤ (shown.view self.old).reads + 36 }
-        ensures cause { IfErr result (λ e. IsWindowCause e (shown.IsTold self.old) (shown.numbers self.old) id (shown.view self.old) (shown.view self.new)) }
+        ensures cause { IfErr result (λ e. IsWindowCause e (shown.IsTold self.old) (shown.numbers self.old) id (shown.view self.old)
+            (shown.view self.new)) }
         ensures quiet { OnOk result ((shown.view self.new).faults ≡ (shown.view self.old).faults) }
         ensures quiet_err { IfErr result (λ e. e ≢ StoreError.DiskFault → (shown.view self.new).faults ≡ (shown.view self.old).faults) }
         ensures looks { shown.OnlyLooks self.old self.new }

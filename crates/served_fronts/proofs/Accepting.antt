@@ -40,7 +40,8 @@ in_session book n m Asks Cant (Some s) (closed k) fits says = absurd fits
 in_session book n m Asks Cant (Some s) (shown k view samples) fits says = ap (λ x. x == m) (sym fits.0) ∙ says
 in_session book n m Asks Cant (Some s) refused fits says = absurd (not_both false says refl)
 
-by_request : (total : ℕ) (book : List Series) (sessions : List OpenSession) (m : ℕ) (r : Request) (reply : Reply) → FitsRequest total book sessions r reply
+by_request : (total : ℕ) (book : List Series) (sessions : List OpenSession) (m : ℕ) (r : Request) (reply : Reply)
+    → FitsRequest total book sessions r reply
     → says_in m reply ≡ true → is_own m (session_read (Ok r)) ≡ true
 by_request total book sessions m (Edit edit) reply fits says = refl
 by_request total book sessions m (Open n cache) reply fits says =
@@ -58,12 +59,14 @@ by_request total book sessions m (Close n) reply fits says =
       | false ↦ λ is. absurd (not_both (says_in m reply) says (ap (says_in m) is))
     ]) fits
 
-by_read : (total : ℕ) (book : List Series) (sessions : List OpenSession) (m : ℕ) (r : Result Request ℕ) (reply : Reply) → FitsSaid total book sessions (ok_of r) reply
+by_read : (total : ℕ) (book : List Series) (sessions : List OpenSession) (m : ℕ) (r : Result Request ℕ) (reply : Reply)
+    → FitsSaid total book sessions (ok_of r) reply
     → says_in m reply ≡ true → is_own m (session_read r) ≡ true
 by_read total book sessions m (Err at) reply fits says = refl
 by_read total book sessions m (Ok r) reply fits says = by_request total book sessions m r reply fits says
 
-pub concerned : (total : ℕ) (book : List Series) (sessions : List OpenSession) (m : ℕ) (line : Line) (reply : Reply) → FitsSaid total book sessions (said_by line) reply
+pub concerned : (total : ℕ) (book : List Series) (sessions : List OpenSession) (m : ℕ) (line : Line) (reply : Reply)
+    → FitsSaid total book sessions (said_by line) reply
     → says_in m reply ≡ true → concerns m line ≡ true
 concerned total book sessions m None reply fits says = refl
 concerned total book sessions m (Some text) reply fits says = by_read total book sessions m (read_line text) reply fits says

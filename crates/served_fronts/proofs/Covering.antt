@@ -100,7 +100,8 @@ module _ (laws : CoverLaws) (every : ℕ) where
       rows_covered view samples (frame.Rows shows.0) c h h' bytes (λ covers none. none) is (subst S shows.1 s)
 
   -- any reply
-  pub said_covered : (reply : Reply) (f : Frame) (d : Option Canvas) (h h' : List Holding) (bytes : List ℕ) → Tells reply f → HasDrawing reply d
+  pub said_covered : (reply : Reply) (f : Frame) (d : Option Canvas) (h h' : List Holding) (bytes : List ℕ) → Tells reply f
+      → HasDrawing reply d
       → Fits f → AgreesSo f d h → SendsFrame (Some every) f d h h' bytes → HasCovers reply bytes
   said_covered applied f d h h' bytes tells is fits agree s =
       let N : Frame → Type 0 = λ g. NoCover every g h in

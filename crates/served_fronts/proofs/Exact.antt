@@ -74,7 +74,8 @@ module _ (spelling_law : Spelling) (agree : FirstBytesAgree) (answered : LinesAr
 
   -- the book that the crash left
   kept : (total : ℕ) (book : List Series) (run : Run) (pages : Image) (n : ℕ) → IsSound (state_of book total []) → run.by_then ≡ n
-      → SendsFirstBytes AreSpelled (state_of book total []) run.input run.status run.sent → (d : Done pages total (state_of book total []) run.input n)
+      → SendsFirstBytes AreSpelled (state_of book total []) run.input run.status run.sent
+      → (d : Done pages total (state_of book total []) run.input n)
       → LeavesBook total book run (after_lines total book d.first)
   kept total book run pages n sound by_then s d =
       let old = state_of book total [] in

@@ -28,7 +28,8 @@ use Rattle.served_fronts.specs.Books.{Line, ok_of, said_by, after_line, after_li
 use Rattle.served_fronts.specs.Fronts.{Draws}
 use Rattle.served_fronts.specs.Answers.{Answer, AreAnswers, ArePictures, FitsSaid}
 use Rattle.served_fronts.specs.Answers.{FitsIn, CantShow, HasPicture, IsAsked, IsPicture, Keeps}
-use Rattle.served_fronts.specs.Answers.{OpenSession, Reply, applied, opened, closed, shown, refused, after_reply, bytes_of, whole_in, AreFrames}
+use Rattle.served_fronts.specs.Answers.{OpenSession, Reply, applied, opened, closed, shown, refused, after_reply, bytes_of, whole_in}
+use Rattle.served_fronts.specs.Answers.{AreFrames}
 use Rattle.served_fronts.specs.Laws.{ChartsHaveOnePicture}
 use Rattle.served_fronts.specs.Headline.{Task, Run, Says, LeavesBook, IsExact, AreExact, ChartsAreExact}
 use Rattle.served_fronts.specs.Example.{first_input, second_input, book_with, bitmap, TheExampleIsDrawn}
@@ -98,7 +99,8 @@ held_by : Spelling → (total : ℕ) (first : Run) (book : List Series) → 62 �
     → 2 ≤ length (whole_in first.by_then leaves.answers) → MayHold book
 held_by law total first book large input leaves many =
     let lines = leaves.first.lines in
-    let size = answers_many total [] [] leaves.requests leaves.answers leaves.first.fit ∙ said_many lines leaves.requests leaves.first.said in
+    let size = answers_many total [] [] leaves.requests leaves.answers leaves.first.fit
+    ∙ said_many lines leaves.requests leaves.first.said in
     let low = few_whole first.by_then leaves.answers in
     let split = sym first_lines ∙ ap told (sym input) ∙ leaves.first.split in
     let some : 2 ≤ length lines = omega (arith, many, size, low) in

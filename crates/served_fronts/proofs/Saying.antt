@@ -337,7 +337,8 @@ view_said series spec n old new answer Fits stored none a fits =
     record {
       reply = shown n spec (kept_by spec series);
       fits = fits;
-      tells = tells_view n spec answer (view_frame n spec a.range series (to_send a.session.cache.pairs spec.series a.needed)) none a.frame_is refl;
+      tells = tells_view n spec answer (view_frame n spec a.range series (to_send a.session.cache.pairs spec.series a.needed)) none
+          a.frame_is refl;
       open_is = ap open_in a.state ∙ sym (view_seen n spec (Some a.needed) old.sessions);
       shows = λ drawing is.
           let P : Frame → Type 0 = λ f. IsPictureOf old new f drawing in

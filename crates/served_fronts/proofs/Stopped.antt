@@ -81,7 +81,8 @@ module _ (one : OneFrame) (told : Told) where
       (subst P (take-append-drop most all) (stay (take most all) (drop most all) at breaks))
 
   -- and the next frame isn't rejected
-  none_rejects : (every : Option ℕ) (frames drawn : List Frame) (n : ℕ) (rest : List ℕ) (frame : Frame) (more : List ℕ) (drawings : List (Option Canvas))
+  none_rejects : (every : Option ℕ) (frames drawn : List Frame) (n : ℕ) (rest : List ℕ) (frame : Frame) (more : List ℕ)
+      (drawings : List (Option Canvas))
       (h : List Holding) (bytes : List ℕ) (e : ClientError) → All Fits frames → All Fits drawn → NoneRejected frames
       → take n (flat_map spelling frames) ≡ flat_map spelling drawn ++ rest → rest ≡ spelling frame ++ more → Fits frame
       → SendsFrames every drawn drawings [] h bytes → Rejects frame e h → e ≡ client.NoMemory
@@ -100,7 +101,8 @@ module _ (one : OneFrame) (told : Told) where
     pub sends : SendsFrames every (whole_frames n frames) drawings [] holdings bytes
     pub sent : now ≡ sent_after bytes before
 
-  module _ (every : Option ℕ) (stay : Stay) (good : Good) (frames : List Frame) (n : ℕ) (before now : Option (List ℕ)) (fit : All Fits frames)
+  module _ (every : Option ℕ) (stay : Stay) (good : Good) (frames : List Frame) (n : ℕ) (before now : Option (List ℕ))
+      (fit : All Fits frames)
       (accepted : NoneRejected frames) (few : n ≤ 2 ^ 32) where
     abbrev input : List ℕ
     input = take n (flat_map spelling frames)
@@ -128,7 +130,8 @@ module _ (one : OneFrame) (told : Told) where
     at_next : (end : DrawEnd) (e : ClientError) → (s : FramesStop every (held 0 input) [] before now end)
         → (next : NextStops every s.rest s.client s.sent_first now end) → Rejects next.frame e s.client → e ≡ client.NoMemory
     at_next end e s next rejects =
-        none_rejects every frames s.first.frames n s.rest.rest next.frame next.behind s.first.drawings s.client s.first.bytes e fit s.first.fit
+        none_rejects every frames s.first.frames n s.rest.rest next.frame next.behind s.first.drawings s.client s.first.bytes e fit
+        s.first.fit
         accepted s.first.split next.next next.fits s.first.sends rejects
 
     -- the drawing didn't stop at a frame
@@ -158,7 +161,8 @@ module _ (one : OneFrame) (told : Told) where
         at_next (draw_end.UnknownSession number) (client.UnknownSession number) s s.stops s.stops.stops.0 in
         cc
 
-    any_end : (left : Option (List ℕ)) (end : DrawEnd) → IsOfInput end → EndsDraw every input left before now end → Drawn every n frames before now
+    any_end : (left : Option (List ℕ)) (end : DrawEnd) → IsOfInput end → EndsDraw every input left before now end
+        → Drawn every n frames before now
     any_end left draw_end.NoMemory own ends = absurd own
     any_end left draw_end.ReadFault own ends = absurd own
     any_end left draw_end.SendFault own ends = absurd own

@@ -103,7 +103,8 @@ module _ (spelling_law : Spelling) (one : OneReply) (pictures : ChartsHaveOnePic
           stands = stands;
         }
 
-    module _ (d : DoesNext (AreTexts (state_of book total [])) (length a.front) (told a.front) a.answers.frames a.text a.rest total a.between
+    module _ (d : DoesNext (AreTexts (state_of book total [])) (length a.front)
+        (told a.front) a.answers.frames a.text a.rest total a.between
         from image count) where
       abbrev more : List Line
       more = told d.next.front

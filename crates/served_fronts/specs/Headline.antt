@@ -1,7 +1,8 @@
 -- What is promised of served charts, over any list of runs, each begun on what a crash of the one before left: where lines are
 -- served, or answered by texts, no acknowledged edit is lost, and of any front of a serving's answers `draw` sends the pictures of
--- the book as it was at each view's line. Of runs that watch, look or change less is said (IsExact). Books.antt has the book after lines, Answers.antt what is
--- said to lines and what is drawn of it; this is the rest, in the order in which it is needed. The program comes in by IsRun alone.
+-- the book as it was at each view's line. Of runs that watch, look or change less is said (IsExact). Books.antt has the book after
+-- lines, Answers.antt what is said to lines and what is drawn of it; this is the rest, in the order in which it is needed. The
+-- program comes in by IsRun alone.
 use Rattle.std.specs.Prelude.{⊤, ◌≡◌, ℕ, ◌+◌, ◌≤◌, List, [], ◌∷◌, ◌++◌, length, take, Option}
 use Rattle.series_book.specs.declared.one_series.Series.{Series}
 use Rattle.block_disk.specs.View.{Image}
@@ -15,8 +16,8 @@ use Rattle.served_fronts.specs.Texts.{AreTexted}
 -- ---- runs
 
 -- What a run is for: it serves lines (the command `serve`), it answers them by texts (`run`), it answers them and follows views
--- (`live`, and `host` where no line asks for a sweep), it leaves the book alone, or it changes the book otherwise. Of each command `task_of` says it
--- (crates/chart_program/specs/Exact.antt).
+-- (`live`, and `host` where no line asks for a sweep), it leaves the book alone, or it changes the book otherwise. Of each command
+-- `task_of` says it (crates/chart_program/specs/Exact.antt).
 pub data Task : Type 0 where
   serves : Task
   runs : Task
@@ -40,7 +41,8 @@ pub record Run : Type 0 where
 
 -- Some first ones of the lines of the input that aren't empty (`told`) say these requests, and the replies of these answers fit
 -- them, over a book and with no session open.
-pub record AnswersFirst (total : ℕ) (book : List Series) (input : List ℕ) (requests : List (Option Request)) (answers : List Answer) : Type 0 where
+pub record AnswersFirst (total : ℕ) (book : List Series) (input : List ℕ) (requests : List (Option Request))
+    (answers : List Answer) : Type 0 where
   pub lines : List Line
   pub later : List Line
   pub split : told input ≡ lines ++ later

@@ -14,7 +14,8 @@ use Rattle.served_fronts.specs.Headline.{Run, IsExact}
 use Rattle.served_fronts.specs.Headline.Task.{serves, runs}
 
 -- The bytes sent begin the text of the frames that answer some first lines of the input; with status 0 they are that of all lines.
-pub record SendsFirstBytes (IsText : List Line → List Frame → List ℕ → Type 0) (old : State) (input : List ℕ) (status : ℕ) (sent : List ℕ) : Type 0 where
+pub record SendsFirstBytes (IsText : List Line → List Frame → List ℕ
+    → Type 0) (old : State) (input : List ℕ) (status : ℕ) (sent : List ℕ) : Type 0 where
   pub lines : List Line
   pub later : List Line
   pub split : told input ≡ lines ++ later

@@ -1,5 +1,6 @@
 -- Which of some lines calls a page damaged.
-use Rattle.std.proofs.Common.{◌≡◌, ◌∙◌, ℕ, List, [], ◌∷◌, ◌++◌, length, Option, None, Some, Result, Ok, Err, IfErr, ap, sym, arith, append_assoc}
+use Rattle.std.proofs.Common.{◌≡◌, ◌∙◌, ℕ, List, [], ◌∷◌, ◌++◌, length, Option, None, Some, Result, Ok, Err, IfErr, ap, sym, arith}
+use Rattle.std.proofs.Common.{append_assoc}
 use Rattle.std.specs.Prelude.{OnOk}
 use Rattle.block_disk.specs.View.{Image}
 use Rattle.page_space.specs.declared.superblock.Superblock.{Superblock}
@@ -24,11 +25,13 @@ use Rattle.served_lines.specs.Blaming.{BlamesTold, ServeBlames}
 
 -- ---- of more series
 
-damaged_more : (One Other : ℕ → Type 0) (image : Image) (s : Superblock) (page : ℕ) → ((id : ℕ) → One id → Other id) → IsDamagedOf One image s page
+damaged_more : (One Other : ℕ → Type 0) (image : Image) (s : Superblock) (page : ℕ) → ((id : ℕ) → One id → Other id)
+    → IsDamagedOf One image s page
     → IsDamagedOf Other image s page
 damaged_more One Other image s page more is = record { id = is.id; there = is.there; shown = more is.id is.shown; damaged = is.damaged }
 
-found_more : (request : Request) (one other : ℕ → ℕ → Type 0) (image : Image) (s : Superblock) (page : ℕ) → ((n id : ℕ) → one n id → other n id)
+found_more : (request : Request) (one other : ℕ → ℕ → Type 0) (image : Image) (s : Superblock) (page : ℕ)
+    → ((n id : ℕ) → one n id → other n id)
     → FindsDamaged request one image s page → FindsDamaged request other image s page
 found_more (EditRequest edit) one other image s page more is = is
 found_more (Open number cache) one other image s page more is = absurd is
@@ -73,7 +76,8 @@ module _ {S F : Type 0} (makes : Makes S F) where
 
   module _ (v w : S) (own : List Session) (before now : Option (List ℕ)) (told : Type 0) (count : ℕ) (image : Image) where
     -- lines behind them aren't read
-    pub blames_more : (lines more : List (Option (List ℕ))) (end : AnswerEnd F) → BlamesEnd makes lines v w own before now told count image end
+    pub blames_more : (lines more : List (Option (List ℕ))) (end : AnswerEnd F)
+        → BlamesEnd makes lines v w own before now told count image end
         → BlamesEnd makes (lines ++ more) v w own before now told count image end
     blames_more lines more (Serve ReadFault) is = tt
     blames_more lines more (Serve SendFault) is = tt

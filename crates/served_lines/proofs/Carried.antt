@@ -28,7 +28,8 @@ all_unpaused (Line at line ∷ later) = ap (λ l. unless_empty line ++ l) (all_u
 all_unpaused (Pause ∷ later) = all_unpaused later
 all_unpaused (End ∷ later) = all_unpaused later
 
-pub said_first : (line : Option (List ℕ)) (later : List (Option (List ℕ))) → unless_empty line ++ filter says later ≡ filter says (line ∷ later)
+pub said_first : (line : Option (List ℕ)) (later : List (Option (List ℕ)))
+    → unless_empty line ++ filter says later ≡ filter says (line ∷ later)
 said_first None later = refl
 said_first (Some []) later = refl
 said_first (Some (byte ∷ bytes)) later = refl

@@ -1,5 +1,6 @@
 -- What a run of the loop over lines says of the answering.
-use Rattle.std.proofs.Common.{◌≡◌, ◌∙◌, ℕ, ◌+◌, ◌-◌, ◌^◌, ◌<◌, ◌⊎◌, List, [], ◌∷◌, ◌++◌, length, Option, None, Some, Result, Ok, Err, IfErr, IfSome, refl, ap, sym, subst, inl, inr, arith, append_assoc, length-append}
+use Rattle.std.proofs.Common.{◌≡◌, ◌∙◌, ℕ, ◌+◌, ◌-◌, ◌^◌, ◌<◌, ◌⊎◌, List, [], ◌∷◌, ◌++◌, length, Option, None, Some, Result, Ok, Err, IfErr}
+use Rattle.std.proofs.Common.{IfSome, refl, ap, sym, subst, inl, inr, arith, append_assoc, length-append}
 use Rattle.std.specs.Prelude.{OnOk}
 use Rattle.std.specs.Borrow.{GName}
 use Rattle.std.specs.List.{after_first, filter}
@@ -36,9 +37,11 @@ use Rattle.chart_service.proofs.SyncLemmas.{edits_joined}
 use Rattle.served_lines.specs.Ending.{answer_of}
 use Rattle.served_lines.specs.Shown.{StopsBy}
 use Rattle.served_lines.specs.Standing.{IsHeld, StandsSo}
-use Rattle.served_lines.specs.Turning.{AreTold, Costs, CostsSome, Does, Held, Leaves, Over, ReadsNext, Rests, Stand, StopsSo, Turn, lines_of, pauses_of}
+use Rattle.served_lines.specs.Turning.{AreTold, Costs, CostsSome, Does, Held, Leaves, Over, ReadsNext, Rests, Stand, StopsSo, Turn}
+use Rattle.served_lines.specs.Turning.{lines_of, pauses_of}
 use Rattle.served_lines.proofs.Carried.{Turned, all_ended, ended, lines_all, paused, told_are, turned}
-use Rattle.served_lines.proofs.Concluding.{OnWay, ahead_over, done_over, ends_over, first_held, long_over, on_way, passing_at, read_over, rest_at, rests_over, told_place}
+use Rattle.served_lines.proofs.Concluding.{OnWay, ahead_over, done_over, ends_over, first_held, long_over, on_way, passing_at, read_over}
+use Rattle.served_lines.proofs.Concluding.{rest_at, rests_over, told_place}
 use Rattle.served_lines.proofs.Counting.{costs_lines}
 use Rattle.served_lines.proofs.Reached.{first_of, no_lines, place, place_begins}
 use Rattle.served_lines.proofs.TurnLemmas.{costs_then}

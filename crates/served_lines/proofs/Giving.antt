@@ -38,12 +38,22 @@ module _ {S F : Type 0} (makes : Makes S F) (named : Named S) (name name' : GNam
         };
         lasts = given.lasts;
       } in
-      let K : S → Type 0 = λ k. GivesText makes (record { name = name; kept = k; ahead = named.ahead; sessions = own }) next front gives.text in
-      let O : List Session → Type 0 = λ o. GivesText makes (record { name = name; kept = named.kept; ahead = named.ahead; sessions = o }) next front gives.text in
+      let K : S → Type 0 = λ k. GivesText makes (record { name = name; kept = k; ahead = named.ahead; sessions = own }) next front
+      gives.text in
+      let O : List Session → Type 0 = λ o. GivesText makes
+      (record { name = name; kept = named.kept; ahead = named.ahead; sessions = o }) next front gives.text in
       record {
         text = gives.text;
         behind = Any next;
-        done = (record { same_reference = same ∙ sym is.name_is; front = front; split = split; gives = subst O (sym is.sessions_are) (subst K (sym is.kept_is) one) }, none);
+        done = (
+          record {
+            same_reference = same ∙ sym is.name_is;
+            front = front;
+            split = split;
+            gives = subst O (sym is.sessions_are) (subst K (sym is.kept_is) one);
+          },
+          none,
+        );
         stands = record { name_is = refl; kept_is = refl; spells = spells; sessions_are = refl };
         sent = gives.sent;
       }
@@ -54,7 +64,8 @@ module _ {S F : Type 0} (makes : Makes S F) (named : Named S) (name name' : GNam
       → StopsAt makes named it name' kept' told count image before now end
   gives_stops it told count image end gives blames =
       let B : S → Type 0 = λ k. BlamesEnd makes (named.ahead ++ lines_of it) k kept' own before now told count image end in
-      let C : List Session → Type 0 = λ o. BlamesEnd makes (named.ahead ++ lines_of it) named.kept kept' o before now told count image end in
+      let C : List Session → Type 0 = λ o. BlamesEnd makes
+      (named.ahead ++ lines_of it) named.kept kept' o before now told count image end in
       let K : S → Type 0 = λ k. GivesFirst makes k kept' (λ n. is_open n own) before now end in
       let O : List Session → Type 0 = λ o. GivesFirst makes named.kept kept' (λ n. is_open n o) before now end in
       record {

@@ -26,7 +26,8 @@ module _ {S F : Type 0} (makes : Makes S F) (name : GName) (kept : S) (edits : L
   pub empty_does : (stand : Stand S) (position : ℕ) (bytes : List ℕ) → length bytes ≡ 0 → StandsSo stand name kept edits told at own before
       → DoesOne (Does makes) (λ s. StandsSo s name kept edits told at own before) stand (Line position (Some bytes)) before before
   empty_does (Any named) position bytes none is =
-      gives_does makes named name name kept kept own own before before edits is refl (Line position (Some bytes)) edits told at [] named.ahead
+      gives_does makes named name name kept kept own own before before edits is refl
+      (Line position (Some bytes)) edits told at [] named.ahead
       (ap (λ (l : List (Option (List ℕ))). named.ahead ++ l) (none_said bytes none) ∙ append-nil named.ahead) is.spells tt
       (last_none makes kept own before)
   empty_does (Over held) position bytes none is =
@@ -43,7 +44,8 @@ module _ {S F : Type 0} (makes : Makes S F) (name : GName) (kept : S) (edits : L
   pub end_does : (stand : Stand S) → StandsSo stand name kept edits told at own before
       → DoesOne (Does makes) (λ s. StandsSo s name kept edits told at own before) stand End before before
   end_does (Any named) is =
-      gives_does makes named name name kept kept own own before before edits is refl End edits told at [] named.ahead (append-nil named.ahead) is.spells tt
+      gives_does makes named name name kept kept own own before before edits is refl End edits told at [] named.ahead
+      (append-nil named.ahead) is.spells tt
       (last_none makes kept own before)
   end_does (Over held) is =
       record { text = []; behind = Over held; done = (turn_none makes held, tt); stands = is; sent = sent_none before }

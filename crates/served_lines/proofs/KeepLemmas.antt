@@ -1,5 +1,6 @@
 -- A line is kept back, or there is no memory for it.
-use Rattle.std.proofs.Common.{◌≡◌, ◌∙◌, ℕ, Bool, ◌+◌, ◌-◌, ◌≤◌, List, [], ◌∷◌, ◌++◌, length, Option, None, Some, Result, Ok, Err, IfErr, refl, ap, sym, subst, inl, inr, arith, length-append}
+use Rattle.std.proofs.Common.{◌≡◌, ◌∙◌, ℕ, Bool, ◌+◌, ◌-◌, ◌≤◌, List, [], ◌∷◌, ◌++◌, length, Option, None, Some, Result, Ok, Err, IfErr}
+use Rattle.std.proofs.Common.{refl, ap, sym, subst, inl, inr, arith, length-append}
 use Rattle.std.specs.Prelude.{OnOk}
 use Rattle.std.specs.Borrow.{GName}
 use Rattle.std.proofs.lemmas.List.{append-nil}
@@ -62,22 +63,26 @@ pub none_spelled : (edits : List Edit) → edits ≡ [] → SpellEdits [] edits
 none_spelled edits none = subst (λ (e : List Edit). SpellEdits [] e) (sym none) tt
 
 -- so are none given
-pub none_given : {S F : Type 0} (makes : Makes S F) (lines : List (Option (List ℕ))) (edits : List Edit) → length edits ≡ 0 → SpellEdits lines edits → (v : S) (a : ℕ → Bool) (before : Option (List ℕ))
+pub none_given : {S F : Type 0} (makes : Makes S F) (lines : List (Option (List ℕ))) (edits : List Edit) → length edits ≡ 0
+    → SpellEdits lines edits → (v : S) (a : ℕ → Bool) (before : Option (List ℕ))
     → Gives makes lines v v a a before before
 none_given makes [] [] none spells v a before = gives_none makes v a before
 none_given makes [] (edit ∷ edits) none spells v a before = absurd spells
 none_given makes (line ∷ lines) [] none spells v a before = absurd spells
 none_given makes (line ∷ lines) (edit ∷ edits) none spells v a before = absurd (omega (arith, none))
 
-pub gives_err : {T S F : Type 0} (makes : Makes S F) (lines : List (Option (List ℕ))) (kept kept' : S) (own sessions : List Session) (before now : Option (List ℕ)) (r :
+pub gives_err : {T S F : Type 0} (makes : Makes S F) (lines : List (Option (List ℕ))) (kept kept' : S) (own sessions : List Session)
+    (before now : Option (List ℕ)) (r :
     Result T (AnswerEnd F))
     → GivesBy makes lines kept kept' own sessions before now r → IfErr r (GivesFirst makes kept kept' (λ n. is_open n own) before now)
 gives_err makes lines kept kept' own sessions before now (Ok done) gives = tt
 gives_err makes lines kept kept' own sessions before now (Err end) gives = gives
 
-pub blame_err : {T S F : Type 0} (makes : Makes S F) (lines : List (Option (List ℕ))) (kept kept' : S) (own sessions : List Session) (before now : Option (List ℕ)) (told : Type 0) (count : ℕ) (image : Image) (r :
+pub blame_err : {T S F : Type 0} (makes : Makes S F) (lines : List (Option (List ℕ))) (kept kept' : S) (own sessions : List Session)
+    (before now : Option (List ℕ)) (told : Type 0) (count : ℕ) (image : Image) (r :
     Result T (AnswerEnd F))
-    → BlamesBy makes lines kept kept' own sessions before now told count image r → IfErr r (BlamesEnd makes lines kept kept' own before now told count image)
+    → BlamesBy makes lines kept kept' own sessions before now told count image r
+    → IfErr r (BlamesEnd makes lines kept kept' own before now told count image)
 blame_err makes lines kept kept' own sessions before now told count image (Ok done) blames = tt
 blame_err makes lines kept kept' own sessions before now told count image (Err end) blames = blames
 
@@ -96,7 +101,8 @@ module _ {S F : Type 0} (makes : Makes S F) (name : GName) (kept : S) (edits : L
       → StandsSo stand name kept edits told at own before
       → StopsBy makes stand (Line position line) name kept told at.size at.image own before before at.reads at.syncs (Serve NoMemory)
   memory_stops (Any named) position line said is =
-      gives_stops makes named name name kept kept own own before before edits is refl (Line position line) told at.size at.image (Serve NoMemory)
+      gives_stops makes named name name kept kept own own before before edits is refl (Line position line) told at.size at.image
+      (Serve NoMemory)
       (first_memory makes [] kept kept (λ n. is_open n own) (λ n. is_open n own) before before (gives_none makes kept (λ n. is_open n own)
       before)) tt
   memory_stops (Over held) position line said is =
@@ -154,8 +160,10 @@ module _ {S F : Type 0} (makes : Makes S F) (name : GName) (kept : S) (edits : L
         → DoesOne (Does makes) (λ s. StandsSo s name kept edits' told at own before) stand (Line position line) before before
     kept_does (Any named) position is =
         let P : List Edit → Type 0 = λ e. SpellEdits (named.ahead ++ line ∷ []) e in
-        gives_does makes named name name kept kept own own before before edits is refl (Line position line) edits' told at [] (named.ahead ++ line ∷ [])
-        (ap (λ (l : List (Option (List ℕ))). named.ahead ++ l) (spelled_line line edit spells)) (subst P (sym pushed) (spells_more named.ahead edits line edit is.spells spells)) tt
+        gives_does makes named name name kept kept own own before before edits is refl (Line position line) edits' told at []
+        (named.ahead ++ line ∷ [])
+        (ap (λ (l : List (Option (List ℕ))). named.ahead ++ l) (spelled_line line edit spells))
+        (subst P (sym pushed) (spells_more named.ahead edits line edit is.spells spells)) tt
         (last_none makes kept own before)
     kept_does (Over held) position is = record {
       text = [];
@@ -181,8 +189,10 @@ module _ {S F : Type 0} (makes : Makes S F) (name : GName) (kept : S) (edits : L
           let spelt = subst P (sym pushed) (spells_more named.ahead edits line edit is.spells spells) in
           ok_so r (GivesLast makes ahead kept kept' own sessions before now)
           (DoesOne (Does makes) (λ s. StandsSo s name' kept' none told' new sessions now) (Any named) (Line position line) before now)
-          (λ given. gives_does makes named name name' kept kept' own sessions before now edits is same_name (Line position line) none told' new
-          ahead [] (ap (λ (l : List (Option (List ℕ))). named.ahead ++ l) (spelled_line line edit spells) ∙ sym (append-nil ahead)) none_left tt given)
+          (λ given. gives_does makes named name name' kept kept' own sessions before now edits is same_name
+          (Line position line) none told' new
+          ahead [] (ap (λ (l : List (Option (List ℕ))). named.ahead ++ l) (spelled_line line edit spells)
+          ∙ sym (append-nil ahead)) none_left tt given)
           (last_ok makes ahead kept kept' own sessions before now told' new.size new.image r (gives ahead spelt))
       full_does r (Over held) position full is none_left gives settles =
           let mid = behind makes held (line ∷ []) in
@@ -212,7 +222,8 @@ module _ {S F : Type 0} (makes : Makes S F) (name : GName) (kept : S) (edits : L
           → SpelledBy edits' (λ lines. BlamesBy makes lines kept kept' own sessions before now told' new.size new.image r)
           → ((held : Held S) → IsHeld held kept edits' told at own before
           → IfErr r (Unsettled makes held kept' edits' new.image sessions now new.reads new.syncs))
-          → IfErr r (λ end. StopsBy makes stand (Line position line) name' kept' told' new.size new.image sessions before now new.reads new.syncs end)
+          → IfErr r (λ end. StopsBy makes stand (Line position line) name' kept' told' new.size new.image sessions before now new.reads
+          new.syncs end)
       full_stops r (Any named) position full few is gives blames unsettled =
           let P : List Edit → Type 0 = λ e. SpellEdits (named.ahead ++ line ∷ []) e in
           let ahead = named.ahead ++ line ∷ [] in
@@ -221,10 +232,12 @@ module _ {S F : Type 0} (makes : Makes S F) (name : GName) (kept : S) (edits : L
           ap (λ (l : List (Option (List ℕ))). named.ahead ++ l) (sym (spelled_line line edit spells)) in
           error_both r (GivesFirst makes kept kept' (λ n. is_open n own) before now)
           (BlamesEnd makes ahead kept kept' own before now told' new.size new.image)
-          (λ end. StopsBy makes (Any named) (Line position line) name' kept' told' new.size new.image sessions before now new.reads new.syncs end)
+          (λ end. StopsBy makes (Any named) (Line position line) name' kept' told' new.size new.image sessions before now new.reads
+          new.syncs end)
           (λ end given blamed.
           let B : List (Option (List ℕ)) → Type 0 = λ l. BlamesEnd makes l kept kept' own before now told' new.size new.image end in
-          gives_stops makes named name name' kept kept' own sessions before now edits is same_name (Line position line) told' new.size new.image end given
+          gives_stops makes named name name' kept kept' own sessions before now edits is same_name
+          (Line position line) told' new.size new.image end given
           (subst B lines_are blamed))
           (gives_err makes ahead kept kept' own sessions before now r (gives ahead spelt))
           (blame_err makes ahead kept kept' own sessions before now told' new.size new.image r (blames ahead spelt))
@@ -232,7 +245,8 @@ module _ {S F : Type 0} (makes : Makes S F) (name : GName) (kept : S) (edits : L
           let mid = behind makes held (line ∷ []) in
           let here = pushed_held held is in
           error_so r (Unsettled makes mid kept' edits' new.image sessions now new.reads new.syncs)
-          (λ end. StopsBy makes (Over held) (Line position line) name' kept' told' new.size new.image sessions before now new.reads new.syncs end)
+          (λ end. StopsBy makes (Over held) (Line position line) name' kept' told' new.size new.image sessions before now new.reads
+          new.syncs end)
           (λ end u. ahead_stopped makes held (Line position line) edits' mid.ahead [] kept' new.image sessions now new.reads new.syncs end
           next_are u.some here.spells few u.why u.reads_few
           (group_costs held.state (edits_of mid.ahead) (unless_empty line) 0 0 1 held.syncs new.syncs counted (omega arith)

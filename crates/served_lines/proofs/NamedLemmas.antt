@@ -1,5 +1,6 @@
 -- What a run of the loop over lines gave, whatever the pages are.
-use Rattle.std.proofs.Common.{◌≡◌, ◌∙◌, ◌⊎◌, ◌^◌, inl, inr, length, ℕ, Bool, true, false, List, [], ◌∷◌, ◌++◌, All, IsTrue, Option, None, Some, Result, Ok, Err, IfErr, IfSome, refl, ap, sym, subst}
+use Rattle.std.proofs.Common.{◌≡◌, ◌∙◌, ◌⊎◌, ◌^◌, inl, inr, length, ℕ, Bool, true, false, List, [], ◌∷◌, ◌++◌, All, IsTrue, Option, None}
+use Rattle.std.proofs.Common.{Some, Result, Ok, Err, IfErr, IfSome, refl, ap, sym, subst}
 use Rattle.std.specs.Prelude.{OnOk, ◌==◌, ◌&&◌, ◌||◌, not}
 use Rattle.std.specs.Borrow.{GName}
 use Rattle.std.specs.List.{filter}
@@ -50,7 +51,8 @@ module _ {S F : Type 0} (makes : Makes S F) where
     pub is : stand ≡ Any new
     pub gives : GivesSome makes old new (lines_all all) text
 
-  more_split : (ahead one other front behind kept last : List (Option (List ℕ))) → ahead ++ one ≡ front ++ kept → kept ++ other ≡ behind ++ last
+  more_split : (ahead one other front behind kept last : List (Option (List ℕ))) → ahead ++ one ≡ front ++ kept
+      → kept ++ other ≡ behind ++ last
       → ahead ++ (one ++ other) ≡ (front ++ behind) ++ last
   more_split ahead one other front behind kept last first second =
       sym (append_assoc ahead one other) ∙ ap (λ (l : List (Option (List ℕ))). l ++ other) first ∙ append_assoc front kept other
@@ -86,7 +88,8 @@ module _ {S F : Type 0} (makes : Makes S F) where
             gives = record {
               same_reference = rest.gives.same_reference ∙ does.0.same_reference;
               front = does.0.front ++ rest.gives.front;
-              split = more_split old.ahead (lines_of it) (lines_all later) does.0.front rest.gives.front mid.ahead rest.new.ahead does.0.split rest.gives.split;
+              split = more_split old.ahead (lines_of it)
+                  (lines_all later) does.0.front rest.gives.front mid.ahead rest.new.ahead does.0.split rest.gives.split;
               gives = λ before now sent.
                   let mid_sent = sent_after all.first before in
                   let both : now ≡ sent_after all.more mid_sent =
@@ -173,18 +176,25 @@ module _ {S F : Type 0} (makes : Makes S F) (v w : S) (own sessions : List Sessi
       (subst K h.kept_is (subst O h.sessions_are (t.gives.gives before now sent)), sym h.name_is ∙ t.gives.same_reference)
 
   -- those of the input, where all was done
-  lines_told : (pieces pieces' : ℕ) (o : Option (List ℕ)) (all : runs.Runs (Does makes) (Any start) (runs.AreAll pieces pieces') StandsNow o before now)
+  lines_told : (pieces pieces' : ℕ) (o : Option (List ℕ))
+      (all : runs.Runs (Does makes) (Any start) (runs.AreAll pieces pieces') StandsNow o before now)
       → (lines : List (Option (List ℕ))) × GivesLines lines × (name' ≡ name) × IfSome o (λ input. lines ≡ told input)
   lines_told pieces pieces' None all =
       let t = given makes all.done.given start all.done.text all.done.behind all.done.carries in
       let g = gives_to all.done.given all.done.text all.done.behind t all.stands all.sent in
       (t.gives.front, g.0, g.1, tt)
   lines_told pieces pieces' (Some input) all =
-      let t = ended makes all.are.earlier all.done.given start all.done.text all.done.behind all.are.paused all.are.given_are all.done.carries in
+      let t = ended makes all.are.earlier all.done.given start all.done.text all.done.behind all.are.paused all.are.given_are
+      all.done.carries in
       let g = gives_to all.done.given all.done.text all.done.behind t.0 all.stands all.sent in
       let are : lines_all all.done.given ≡ told input =
-      ap lines_all all.are.given_are ∙ all_ended all.are.earlier ∙ told_are all.are.earlier input all.are.lines_are in
-      (t.0.gives.front, g.0, g.1, sym (append-nil t.0.gives.front) ∙ ap (λ (l : List (Option (List ℕ))). t.0.gives.front ++ l) (sym t.1) ∙ sym t.0.gives.split ∙ are)
+      ap lines_all all.are.given_are ∙ all_ended all.are.earlier ∙ told_are all.are.earlier input all.are.lines_are in (
+        t.0.gives.front,
+        g.0,
+        g.1,
+        sym (append-nil t.0.gives.front) ∙ ap (λ (l : List (Option (List ℕ))). t.0.gives.front ++ l) (sym t.1)
+            ∙ sym t.0.gives.split ∙ are,
+      )
 
   pub gives_so : {T : Type 0} (o left : Option (List ℕ)) (pieces pieces' : ℕ) (r : Result T (LinesStop (AnswerEnd F)))
       → OnOk r (runs.Runs (Does makes) (Any start) (runs.AreAll pieces pieces') StandsNow o before now)
@@ -195,12 +205,26 @@ module _ {S F : Type 0} (makes : Makes S F) (v w : S) (own sessions : List Sessi
       (record { lines = is.0; gives = is.1.gives; are_told = is.3 }, is.2)
   gives_so o left pieces pieces' (Err (stop.Fault fault.ReadFault)) all why =
       let t = given makes why.done.given start why.done.text why.done.behind why.done.carries in
-      let g = gives_to why.done.given why.done.text why.done.behind t why.stands why.sent in
-      (record { lines = []; gives = first_fault makes t.gives.front v w (λ n. is_open n own) (λ n. is_open n sessions) before now fault.ReadFault g.0.gives; are_told = tt }, g.1)
+      let g = gives_to why.done.given why.done.text why.done.behind t why.stands why.sent in (
+        record {
+          lines = [];
+          gives = first_fault makes t.gives.front v w (λ n. is_open n own)
+              (λ n. is_open n sessions) before now fault.ReadFault g.0.gives;
+          are_told = tt;
+        },
+        g.1,
+      )
   gives_so o left pieces pieces' (Err (stop.Fault fault.InputTooLong)) all why =
       let t = given makes why.done.given start why.done.text why.done.behind why.done.carries in
-      let g = gives_to why.done.given why.done.text why.done.behind t why.stands why.sent in
-      (record { lines = []; gives = first_fault makes t.gives.front v w (λ n. is_open n own) (λ n. is_open n sessions) before now fault.InputTooLong g.0.gives; are_told = tt }, g.1)
+      let g = gives_to why.done.given why.done.text why.done.behind t why.stands why.sent in (
+        record {
+          lines = [];
+          gives = first_fault makes t.gives.front v w (λ n. is_open n own)
+              (λ n. is_open n sessions) before now fault.InputTooLong g.0.gives;
+          are_told = tt;
+        },
+        g.1,
+      )
   gives_so o left pieces pieces' (Err (stop.Work end)) all why =
       let d = why.done in
       let t = given makes d.given start d.text d.behind d.carries in
@@ -209,7 +233,8 @@ module _ {S F : Type 0} (makes : Makes S F) (v w : S) (own sessions : List Sessi
       let s : StopsAt makes t.new why.next name' w told_now new.size new.image mid now end = subst P t.is why.why in (
         record {
           lines = [];
-          gives = first_behind makes t.gives.front v t.new.kept w (λ n. is_open n own) (λ n. is_open n t.new.sessions) before mid now end (t.gives.gives before mid
+          gives = first_behind makes t.gives.front v t.new.kept w (λ n. is_open n own) (λ n. is_open n t.new.sessions) before mid now end
+              (t.gives.gives before mid
               refl).gives s.gives;
           are_told = tt;
         },
@@ -224,10 +249,12 @@ module _ {S F : Type 0} (makes : Makes S F) (v w : S) (own sessions : List Sessi
   first_told input all next are =
       let first = are.first in
       let front_is : lines_all all ≡ told first.front = told_are all first.front first.given_are in
-      let split : told input ≡ told first.front ++ told first.rest = ap told first.begins.split ∙ told_both first.front first.rest first.begins.whole in
+      let split : told input ≡ told first.front ++ told first.rest = ap told first.begins.split
+      ∙ told_both first.front first.rest first.begins.whole in
       let rest = next_told next first.rest are.next_is in (
         rest.0,
-        split ∙ ap (λ (l : List (Option (List ℕ))). l ++ told first.rest) (sym front_is) ∙ ap (λ (l : List (Option (List ℕ))). lines_all all ++ l) rest.1
+        split ∙ ap (λ (l : List (Option (List ℕ))). l ++ told first.rest) (sym front_is)
+            ∙ ap (λ (l : List (Option (List ℕ))). lines_all all ++ l) rest.1
             ∙ sym (append_assoc (lines_all all) (lines_of next) rest.0),
       )
     where
@@ -235,7 +262,8 @@ module _ {S F : Type 0} (makes : Makes S F) (v w : S) (own sessions : List Sessi
       told_both front rest (inl whole) = told_behind front rest whole
       told_both front rest (inr none) =
           ap (λ (r : List ℕ). told (front ++ r)) none ∙ ap told (append-nil front) ∙ sym (append-nil (told front))
-          ∙ ap (λ (l : List (Option (List ℕ))). told front ++ l) (sym (ap (filter says) lines_none)) ∙ ap (λ (r : List ℕ). told front ++ told r) (sym none)
+          ∙ ap (λ (l : List (Option (List ℕ))). told front ++ l) (sym (ap (filter says) lines_none))
+          ∙ ap (λ (r : List ℕ). told front ++ told r) (sym none)
 
       next_told : (next : Given) (rest : List ℕ) → IsNextWithin (2 ^ 32) (length are.first.front) rest next
           → (behind : List (Option (List ℕ))) × (told rest ≡ lines_of next ++ behind)
@@ -256,11 +284,14 @@ module _ {S F : Type 0} (makes : Makes S F) (v w : S) (own sessions : List Sessi
       let mid = sent_after d.text before in
       let P : Stand S → Type 0 = λ s. Stops s why.next end mid in
       let s : StopsAt makes t.new why.next name' w told_now new.size new.image mid now end = subst P t.is why.why in
-      let blamed = blames_behind makes v w own before now told_now new.size new.image t.new.kept t.new.sessions mid t.gives.front (t.new.ahead ++ lines_of why.next) end
+      let blamed = blames_behind makes v w own before now told_now new.size new.image t.new.kept t.new.sessions mid t.gives.front
+      (t.new.ahead ++ lines_of why.next) end
       (t.gives.gives before mid refl) s.blames in
       let lines_are : t.gives.front ++ (t.new.ahead ++ lines_of why.next) ≡ lines_all d.given ++ lines_of why.next =
-      sym (append_assoc t.gives.front t.new.ahead (lines_of why.next)) ∙ ap (λ (l : List (Option (List ℕ))). l ++ lines_of why.next) (sym t.gives.split) in
-      by o end why.are (let B : List (Option (List ℕ)) → Type 0 = λ l. BlamesEnd makes l v w own before now told_now new.size new.image end in subst B lines_are blamed)
+      sym (append_assoc t.gives.front t.new.ahead (lines_of why.next))
+      ∙ ap (λ (l : List (Option (List ℕ))). l ++ lines_of why.next) (sym t.gives.split) in
+      by o end why.are (let B : List (Option (List ℕ))
+      → Type 0 = λ l. BlamesEnd makes l v w own before now told_now new.size new.image end in subst B lines_are blamed)
     where
       by : (o : Option (List ℕ)) (end : AnswerEnd F) → IfSome o (λ bytes. AreBeforeWithin (2 ^ 32) bytes why.done.given why.next)
           → BlamesEnd makes (lines_all why.done.given ++ lines_of why.next) v w own before now told_now new.size new.image end
@@ -276,7 +307,8 @@ module _ {S F : Type 0} (makes : Makes S F) (v w : S) (own sessions : List Sessi
             front = is.front;
             line = is.line;
             behind = is.behind ++ rest.0;
-            lines_are = rest.1 ∙ ap (λ (l : List (Option (List ℕ))). l ++ rest.0) is.split ∙ append_assoc is.front (is.line ∷ is.behind) rest.0;
+            lines_are = rest.1 ∙ ap (λ (l : List (Option (List ℕ))). l ++ rest.0) is.split
+                ∙ append_assoc is.front (is.line ∷ is.behind) rest.0;
             frames = g.frames;
             fits = g.fits;
             answers = g.answers;
@@ -284,7 +316,8 @@ module _ {S F : Type 0} (makes : Makes S F) (v w : S) (own sessions : List Sessi
             text = g.text;
             made = g.made;
             sent = g.sent;
-            blames = more_blamed is.line (IsLastIn is.sessions) (LastShown (IsLastIn own) is.front g.frames) told_now new.size new.image page is.gives.lasts is.blames;
+            blames = more_blamed is.line (IsLastIn is.sessions)
+                (LastShown (IsLastIn own) is.front g.frames) told_now new.size new.image page is.gives.lasts is.blames;
           }
       by o (Serve InputTooLong) are is = tt
       by o (Serve NoMemory) are is = tt
@@ -343,7 +376,8 @@ module _ {S F : Type 0} (makes : Makes S F) (knows : S → ℕ → Bool) (follow
       (subst IsTrue (g.given.open_now n) is)) g.stops
 
   -- a frame whose bytes weren't made names known sessions
-  pub known_by : {T : Type 0} (lines : List (Option (List ℕ))) (v w : S) (own sessions : List Session) (before now : Option (List ℕ)) (r : Result T (AnswerEnd F))
+  pub known_by : {T : Type 0} (lines : List (Option (List ℕ))) (v w : S) (own sessions : List Session) (before now : Option (List ℕ))
+      (r : Result T (AnswerEnd F))
       → KnowsOpen knows v own
       → GivesBy makes lines v w own sessions before now r → IfErr r (EndsKnown makes knows)
   known_by lines v w own sessions before now (Ok done) known gives = tt

@@ -1,5 +1,6 @@
 -- A group is done, and then a line that is no edit.
-use Rattle.std.proofs.Common.{◌≡◌, ◌∙◌, ℕ, ◌+◌, ◌≤◌, List, [], ◌++◌, length, Option, None, Some, Result, IfErr, IfSome, refl, ap, sym, subst, arith}
+use Rattle.std.proofs.Common.{◌≡◌, ◌∙◌, ℕ, ◌+◌, ◌≤◌, List, [], ◌++◌, length, Option, None, Some, Result, IfErr, IfSome, refl, ap, sym}
+use Rattle.std.proofs.Common.{subst, arith}
 use Rattle.std.specs.Prelude.{OnOk}
 use Rattle.std.proofs.lemmas.List.{append-nil}
 use Rattle.std.specs.Borrow.{GName}
@@ -34,7 +35,8 @@ use Rattle.served_lines.specs.Turning.{Any, AreTold, Does, Held, Lasting, Leaves
 use Rattle.served_lines.proofs.Giving.{gives_does, gives_stops}
 use Rattle.served_lines.proofs.BlameLemmas.{blames_behind, blames_more, last_ok}
 use Rattle.served_lines.proofs.KeepLemmas.{blame_err, error_both, gives_err, run_through}
-use Rattle.served_lines.proofs.Steps.{IsSaid, ahead_leaves, ahead_stopped, group_costs, none_spelt, other_answered, other_leaves, other_stopped, settled_turn}
+use Rattle.served_lines.proofs.Steps.{IsSaid, ahead_leaves, ahead_stopped, group_costs, none_spelt, other_answered, other_leaves}
+use Rattle.served_lines.proofs.Steps.{other_stopped, settled_turn}
 
 -- another line is counted
 pub other_counted : (line : Option (List ℕ)) → IsSaid line → edit_of line ≡ []
@@ -67,7 +69,8 @@ module _ {S F : Type 0} (makes : Makes S F) (name : GName) (kept : S) (edits : L
     pause_does r (Any named) is none_left gives settles =
         ok_so r (GivesLast makes named.ahead kept kept' own sessions before now)
         (DoesOne (Does makes) (λ s. StandsSo s name' kept' none told' mid sessions now) (Any named) Pause before now)
-        (λ given. gives_does makes named name name' kept kept' own sessions before now edits is same_name Pause none told' mid named.ahead [] refl none_left refl given)
+        (λ given. gives_does makes named name name' kept kept' own sessions before now edits is same_name Pause none told' mid named.ahead
+        [] refl none_left refl given)
         (last_ok makes named.ahead kept kept' own sessions before now told' mid.size mid.image r (gives named.ahead is.spells))
     pause_does r (Over held) is none_left gives settles =
         ok_so r (SettlesTo makes held (λ h. IsHeld h kept' none told' mid sessions now) before now)
@@ -84,7 +87,8 @@ module _ {S F : Type 0} (makes : Makes S F) (name : GName) (kept : S) (edits : L
     -- they weren't all answered
     pub group_stops : {T : Type 0} (r : Result T (AnswerEnd F)) (stand : Stand S) (it : Given) (others : ℕ)
         → length (lines_of it) ≡ others + length (edits_of (lines_of it)) → 1 ≤ others + pauses_of it → length edits ≤ most_ahead
-        → StandsSo stand name kept edits told at own before → SpelledBy edits (λ lines. GivesBy makes lines kept kept' own sessions before now r)
+        → StandsSo stand name kept edits told at own before
+        → SpelledBy edits (λ lines. GivesBy makes lines kept kept' own sessions before now r)
         → SpelledBy edits (λ lines. BlamesBy makes lines kept kept' own sessions before now told' mid.size mid.image r)
         → ((held : Held S) → IsHeld held kept edits told at own before
         → IfErr r (Unsettled makes held kept' edits mid.image sessions now mid.reads mid.syncs))
@@ -93,7 +97,8 @@ module _ {S F : Type 0} (makes : Makes S F) (name : GName) (kept : S) (edits : L
         error_both r (GivesFirst makes kept kept' (λ n. is_open n own) before now)
         (BlamesEnd makes named.ahead kept kept' own before now told' mid.size mid.image)
         (λ end. StopsBy makes (Any named) it name' kept' told' mid.size mid.image sessions before now mid.reads mid.syncs end)
-        (λ end given blamed. gives_stops makes named name name' kept kept' own sessions before now edits is same_name it told' mid.size mid.image end given
+        (λ end given blamed. gives_stops makes named name name' kept kept' own sessions before now edits is same_name it told' mid.size
+        mid.image end given
         (blames_more makes kept kept' own before now told' mid.size mid.image named.ahead (lines_of it) end blamed))
         (gives_err makes named.ahead kept kept' own sessions before now r (gives named.ahead is.spells))
         (blame_err makes named.ahead kept kept' own sessions before now told' mid.size mid.image r (blames named.ahead is.spells))
@@ -125,7 +130,8 @@ module _ {S F : Type 0} (makes : Makes S F) (name : GName) (kept : S) (edits : L
 
     -- ---- and a line behind it
 
-    module _ (none_left : SpellEdits [] none) (gives_mid : SpelledBy edits (λ lines. GivesLast makes lines kept kept' own sessions before now))
+    module _ (none_left : SpellEdits [] none) (gives_mid : SpelledBy edits
+        (λ lines. GivesLast makes lines kept kept' own sessions before now))
         (settles : (held : Held S) → IsHeld held kept edits told at own before
         → SettlesTo makes held (λ h. IsHeld h kept' none told' mid sessions now) before now)
         (line : Option (List ℕ)) (said : IsSaid line) (idle : edit_of line ≡ [])
@@ -149,7 +155,8 @@ module _ {S F : Type 0} (makes : Makes S F) (name : GName) (kept : S) (edits : L
           (DoesOne (Does makes) (λ s. StandsSo s name'' kept'' none told'' new sessions' later) (Any named) (Line position line) before
           later)
           (λ given. gives_does makes named name name'' kept kept'' own sessions' before later edits is (same_later
-          ∙ same_name) (Line position line) none told'' new (named.ahead ++ unless_empty line) [] (sym (append-nil (named.ahead ++ unless_empty line))) none_left tt
+          ∙ same_name) (Line position line) none told'' new (named.ahead ++ unless_empty line) []
+          (sym (append-nil (named.ahead ++ unless_empty line))) none_left tt
           (last_then makes named.ahead (unless_empty line) kept kept' kept'' own sessions sessions' before now later
           (gives_mid named.ahead is.spells) given))
           (last_ok makes (unless_empty line) kept' kept'' sessions sessions' now later told'' new.size new.image r gives)
@@ -181,16 +188,21 @@ module _ {S F : Type 0} (makes : Makes S F) (name : GName) (kept : S) (edits : L
           → ((total : ℕ) (book : List Series) → told' → StandsForBook mid.image total book
           → IfErr r (LinesStop makes (unless_empty line) kept' kept'' (state_of book total sessions) new.image sessions' now later))
           → ReadsSo → new.syncs ≡ mid.syncs
-          → IfErr r (λ end. StopsBy makes stand (Line position line) name'' kept'' told'' new.size new.image sessions' before later new.reads new.syncs end)
+          → IfErr r (λ end. StopsBy makes stand (Line position line) name'' kept'' told'' new.size new.image sessions' before later
+          new.reads new.syncs end)
       line_stops r (Any named) position is gives blames stops reads synced =
           error_both r (GivesFirst makes kept' kept'' (λ n. is_open n sessions) now later)
           (BlamesEnd makes (unless_empty line) kept' kept'' sessions now later told'' new.size new.image)
-          (λ end. StopsBy makes (Any named) (Line position line) name'' kept'' told'' new.size new.image sessions' before later new.reads new.syncs end)
+          (λ end. StopsBy makes (Any named) (Line position line) name'' kept'' told'' new.size new.image sessions' before later new.reads
+          new.syncs end)
           (λ end given blamed.
           let mid_gives = gives_mid named.ahead is.spells in
-          gives_stops makes named name name'' kept kept'' own sessions' before later edits is (same_later ∙ same_name) (Line position line) told'' new.size new.image end
-          (first_behind makes named.ahead kept kept' kept'' (λ n. is_open n own) (λ n. is_open n sessions) before now later end mid_gives.gives given)
-          (blames_behind makes kept kept'' own before later told'' new.size new.image kept' sessions now named.ahead (unless_empty line) end mid_gives blamed))
+          gives_stops makes named name name'' kept kept'' own sessions' before later edits is (same_later
+          ∙ same_name) (Line position line) told'' new.size new.image end
+          (first_behind makes named.ahead kept kept' kept'' (λ n. is_open n own)
+          (λ n. is_open n sessions) before now later end mid_gives.gives given)
+          (blames_behind makes kept kept'' own before later told'' new.size new.image kept' sessions now named.ahead
+          (unless_empty line) end mid_gives blamed))
           (gives_err makes (unless_empty line) kept' kept'' sessions sessions' now later r gives)
           (blame_err makes (unless_empty line) kept' kept'' sessions sessions' now later told'' new.size new.image r blames)
       line_stops r (Over held) position is gives blames stops reads synced =
@@ -198,7 +210,8 @@ module _ {S F : Type 0} (makes : Makes S F) (name : GName) (kept : S) (edits : L
           let state = s.new.state in
           let first = state_of state.book state.total sessions in
           error_so r (LinesStop makes (unless_empty line) kept' kept'' first new.image sessions' now later)
-          (λ end. StopsBy makes (Over held) (Line position line) name'' kept'' told'' new.size new.image sessions' before later new.reads new.syncs end)
+          (λ end. StopsBy makes (Over held) (Line position line) name'' kept'' told'' new.size new.image sessions' before later new.reads
+          new.syncs end)
           (λ end why. other_stopped makes held s.new s.text s.settles line said idle none told' told'' mid new sessions sessions' kept'
           kept'' now later s.stands
           end position why (reads state.total state.book s.stands.told_so s.stands.stands) synced)

@@ -1,5 +1,6 @@
 -- How far in its input a service is, by lines that were given.
-use Rattle.std.proofs.Common.{◌≡◌, ◌≢◌, ◌∙◌, ℕ, ◌+◌, ◌^◌, ◌≤◌, ◌⊎◌, List, [], ◌∷◌, ◌++◌, length, true, false, Option, Some, refl, ap, sym, subst, inl, inr, arith, append_assoc, length-append}
+use Rattle.std.proofs.Common.{◌≡◌, ◌≢◌, ◌∙◌, ℕ, ◌+◌, ◌^◌, ◌≤◌, ◌⊎◌, List, [], ◌∷◌, ◌++◌, length, true, false, Option, Some, refl, ap, sym}
+use Rattle.std.proofs.Common.{subst, inl, inr, arith, append_assoc, length-append}
 use Rattle.std.specs.List.{filter, after_first}
 use Rattle.std.proofs.lemmas.List.{append-nil}
 use Rattle.chart_world.specs.FrontLaws.{FrontOf, told_split, whole_joined}
@@ -18,7 +19,16 @@ use Rattle.served_lines.specs.Turning.{lines_of}
 
 -- a reader that has given so many bytes, with none pending
 abbrev pub reading_at : ℕ → Reading
-reading_at given = record { given = given; pending = []; taken = given; line = []; offset = 0; usable = true; ended = false; limit = 2 ^ 32 }
+reading_at given = record {
+  given = given;
+  pending = [];
+  taken = given;
+  line = [];
+  offset = 0;
+  usable = true;
+  ended = false;
+  limit = 2 ^ 32;
+}
 
 nothing_behind : (front piece : List ℕ) → front ++ piece ≡ [] → piece ≡ []
 nothing_behind [] piece none = none

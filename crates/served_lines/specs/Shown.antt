@@ -72,7 +72,8 @@ module _ {P R S F Z : Type 0} {g : Ghosts P} (sent : P → Option (List ℕ)) (m
 
   abbrev pub StopsIn : Stand S → Given → AnswerEnd F → Turns R S (Vec Edit Z) → Service P g → Option (List ℕ) → Type 0
   StopsIn stand it end turns new before =
-      StopsBy makes stand it turns.kept.ghost_name turns.kept.now (shown.IsTold new) (shown.view new).size (shown.image new) (shown.sessions new) before
+      StopsBy makes stand it turns.kept.ghost_name turns.kept.now (shown.IsTold new) (shown.view new).size (shown.image new)
+      (shown.sessions new) before
       (sent (shown.pages new)) (shown.view new).reads (shown.view new).syncs end
 
   -- the same, by the service from before

@@ -36,26 +36,35 @@ pub fn answer_lines<P: PageWorld, S, F, R: Reply<S, F>>(
     kept: &mut S,
 ) -> Result<(), AnswerEnd<F>>
     requires { (shown.view service.old).fit }
-    ensures done { shown.ForBook service.old (λ total book. OnOk result (SendsAll P.left P.sent (AreMade R.makes kept.old kept.new) total book service.old service.new)) }
+    ensures done { shown.ForBook service.old (λ total book. OnOk result
+        (SendsAll P.left P.sent (AreMade R.makes kept.old kept.new) total book service.old service.new)) }
     ensures within { OnOk result (IfSome (P.left (shown.pages service.old)) (λ input. length input ≤ 2 ^ 32)) }
-    ensures ends { shown.ForBook service.old (λ total book. IfErr result (EndsBy P.left P.sent R.makes kept.old kept.new total book service.old service.new)) }
+    ensures ends { shown.ForBook service.old (λ total book. IfErr result
+        (EndsBy P.left P.sent R.makes kept.old kept.new total book service.old service.new)) }
     // at each moment a crash leaves a book with each edit whose bytes were sent by then, and at most 64 edits more
-    ensures crash { shown.ForBook service.old (λ total book. LastsBy P.left P.sent (AreMadeFrom R.makes kept.old) total book service.old service.new) }
+    ensures crash { shown.ForBook service.old (λ total book. LastsBy P.left P.sent
+        (AreMadeFrom R.makes kept.old) total book service.old service.new) }
     // blocks are read for lines alone, for each as few as its request may read
     ensures reads { shown.ForBook service.old (λ total book. ReadsByLines P.left total book service.old service.new) }
     // edits whose lines stand ready are committed together
     ensures syncs { shown.ForBook service.old (λ total book. SyncsByLines P.left P.pieces total book service.old service.new) }
     // whatever the pages are
     ensures whole { OnOk result (IsReadUp (P.left (shown.pages service.old)) (P.left (shown.pages service.new))) }
-    ensures long { result ≡ Err (AnswerEnd.Serve ServeEnd.InputTooLong) → IfSome (P.left (shown.pages service.old)) (λ input. 2 ^ 32 < length input) }
-    ensures read { result ≡ Err (AnswerEnd.Serve ServeEnd.ReadFault) → HasRisen (P.read_faults (shown.pages service.old)) (P.read_faults (shown.pages service.new)) }
-    ensures send { result ≡ Err (AnswerEnd.Serve ServeEnd.SendFault) → HasRisen (P.send_faults (shown.pages service.old)) (P.send_faults (shown.pages service.new)) }
-    ensures disk { result ≡ Err (AnswerEnd.Serve ServeEnd.DiskFault) → HasRisen (shown.view service.old).faults (shown.view service.new).faults }
+    ensures long { result ≡ Err (AnswerEnd.Serve ServeEnd.InputTooLong)
+        → IfSome (P.left (shown.pages service.old)) (λ input. 2 ^ 32 < length input) }
+    ensures read { result ≡ Err (AnswerEnd.Serve ServeEnd.ReadFault)
+        → HasRisen (P.read_faults (shown.pages service.old)) (P.read_faults (shown.pages service.new)) }
+    ensures send { result ≡ Err (AnswerEnd.Serve ServeEnd.SendFault)
+        → HasRisen (P.send_faults (shown.pages service.old)) (P.send_faults (shown.pages service.new)) }
+    ensures disk { result ≡ Err (AnswerEnd.Serve ServeEnd.DiskFault)
+        → HasRisen (shown.view service.old).faults (shown.view service.new).faults }
     ensures faults { CountsFault (fault_in answer_fault result) (shown.view service.old) (shown.view service.new) }
     // where the open sessions are known, a frame whose bytes weren't made names known ones
-    ensures known { (knows : S → ℕ → Bool) → Follows R.makes knows → KnowsOpen knows kept.old service.old.sessions → IfErr result (EndsKnown R.makes knows) }
+    ensures known { (knows : S → ℕ → Bool) → Follows R.makes knows → KnowsOpen knows kept.old service.old.sessions
+        → IfErr result (EndsKnown R.makes knows) }
     // each frame may answer its line, and names a session that is open by those before it; after `Ok` there is one a line
-    ensures gives { GivesTold R.makes (P.left (shown.pages service.old)) kept.old kept.new service.old.sessions service.new.sessions (P.sent (shown.pages service.old)) (P.sent (shown.pages service.new)) result }
+    ensures gives { GivesTold R.makes (P.left (shown.pages service.old)) kept.old kept.new service.old.sessions service.new.sessions
+        (P.sent (shown.pages service.old)) (P.sent (shown.pages service.new)) result }
     // a page is called damaged by the line behind the answered ones
     ensures blames { IfErr result (BlamesOf P.left P.sent R.makes kept.old kept.new service.old service.new) }
     ensures bad { IfErr result (EndsAtBad (shown.IsTold service.new) (shown.view service.new).size (shown.image service.new)) }
@@ -90,20 +99,29 @@ fn answer_turns<P: PageWorld, S, F, R: Reply<S, F>>(
     requires none { turns.old.edits.items ≡ [] }
     requires fresh { lines.old ≡ unread_input }
     ensures same_reference { turns.new.kept.ghost_name ≡ turns.old.kept.ghost_name }
-    ensures done { shown.ForBook service.old (λ total book. OnOk result (SendsAll P.left P.sent (AreMade R.makes turns.old.kept.now turns.new.kept.now) total book service.old service.new)) }
+    ensures done { shown.ForBook service.old (λ total book. OnOk result
+        (SendsAll P.left P.sent (AreMade R.makes turns.old.kept.now turns.new.kept.now) total book service.old service.new)) }
     ensures within { OnOk result (IfSome (P.left (shown.pages service.old)) (λ input. length input ≤ 2 ^ 32)) }
-    ensures ends { shown.ForBook service.old (λ total book. IfErr result (EndsBy P.left P.sent R.makes turns.old.kept.now turns.new.kept.now total book service.old service.new)) }
-    ensures crash { shown.ForBook service.old (λ total book. LastsBy P.left P.sent (AreMadeFrom R.makes turns.old.kept.now) total book service.old service.new) }
+    ensures ends { shown.ForBook service.old (λ total book. IfErr result
+        (EndsBy P.left P.sent R.makes turns.old.kept.now turns.new.kept.now total book service.old service.new)) }
+    ensures crash { shown.ForBook service.old (λ total book. LastsBy P.left P.sent
+        (AreMadeFrom R.makes turns.old.kept.now) total book service.old service.new) }
     ensures reads { shown.ForBook service.old (λ total book. ReadsByLines P.left total book service.old service.new) }
     ensures syncs { shown.ForBook service.old (λ total book. SyncsByLines P.left P.pieces total book service.old service.new) }
     ensures whole { OnOk result (IsReadUp (P.left (shown.pages service.old)) (P.left (shown.pages service.new))) }
-    ensures long { result ≡ Err (AnswerEnd.Serve ServeEnd.InputTooLong) → IfSome (P.left (shown.pages service.old)) (λ input. 2 ^ 32 < length input) }
-    ensures read { result ≡ Err (AnswerEnd.Serve ServeEnd.ReadFault) → HasRisen (P.read_faults (shown.pages service.old)) (P.read_faults (shown.pages service.new)) }
-    ensures send { result ≡ Err (AnswerEnd.Serve ServeEnd.SendFault) → HasRisen (P.send_faults (shown.pages service.old)) (P.send_faults (shown.pages service.new)) }
-    ensures disk { result ≡ Err (AnswerEnd.Serve ServeEnd.DiskFault) → HasRisen (shown.view service.old).faults (shown.view service.new).faults }
+    ensures long { result ≡ Err (AnswerEnd.Serve ServeEnd.InputTooLong)
+        → IfSome (P.left (shown.pages service.old)) (λ input. 2 ^ 32 < length input) }
+    ensures read { result ≡ Err (AnswerEnd.Serve ServeEnd.ReadFault)
+        → HasRisen (P.read_faults (shown.pages service.old)) (P.read_faults (shown.pages service.new)) }
+    ensures send { result ≡ Err (AnswerEnd.Serve ServeEnd.SendFault)
+        → HasRisen (P.send_faults (shown.pages service.old)) (P.send_faults (shown.pages service.new)) }
+    ensures disk { result ≡ Err (AnswerEnd.Serve ServeEnd.DiskFault)
+        → HasRisen (shown.view service.old).faults (shown.view service.new).faults }
     ensures faults { CountsFault (fault_in answer_fault result) (shown.view service.old) (shown.view service.new) }
-    ensures known { (knows : S → ℕ → Bool) → Follows R.makes knows → KnowsOpen knows turns.old.kept.now service.old.sessions → IfErr result (EndsKnown R.makes knows) }
-    ensures gives { GivesTold R.makes (P.left (shown.pages service.old)) turns.old.kept.now turns.new.kept.now service.old.sessions service.new.sessions (P.sent (shown.pages service.old)) (P.sent (shown.pages service.new)) result }
+    ensures known { (knows : S → ℕ → Bool) → Follows R.makes knows → KnowsOpen knows turns.old.kept.now service.old.sessions
+        → IfErr result (EndsKnown R.makes knows) }
+    ensures gives { GivesTold R.makes (P.left (shown.pages service.old)) turns.old.kept.now turns.new.kept.now service.old.sessions
+        service.new.sessions (P.sent (shown.pages service.old)) (P.sent (shown.pages service.new)) result }
     ensures blames { IfErr result (BlamesOf P.left P.sent R.makes turns.old.kept.now turns.new.kept.now service.old service.new) }
     ensures bad { IfErr result (EndsAtBad (shown.IsTold service.new) (shown.view service.new).size (shown.image service.new)) }
     ensures serves { Serves (shown.IsTold service.old) (shown.IsTold service.new) (shown.view service.old) (shown.view service.new) }

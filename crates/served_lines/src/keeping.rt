@@ -27,9 +27,12 @@ pub(crate) fn keep<P: PageWorld, S, F, R: Reply<S, F>>(
 ) -> Result<(), AnswerEnd<F>>
     requires fit { FitIn turns.old service.old }
     requires is_edit { IsEdit edit }
-    ensures does { (stand : Stand S) → ForSpelled edit (λ it. StandsIn P.sent stand turns.old service.old → OnOk result (DoesIn P.sent R.makes stand it turns.new service.old service.new)) }
-    ensures stops { (stand : Stand S) → ForSpelled edit (λ it. StandsIn P.sent stand turns.old service.old → IfErr result (StopsFrom P.sent R.makes stand it turns.new service.old service.new)) }
-    ensures leaves { (stand : Stand S) → ForSpelled edit (λ it. StandsIn P.sent stand turns.old service.old → Lasting stand → LeavesIn R.makes stand it service.old service.new) }
+    ensures does { (stand : Stand S) → ForSpelled edit (λ it. StandsIn P.sent stand turns.old service.old
+        → OnOk result (DoesIn P.sent R.makes stand it turns.new service.old service.new)) }
+    ensures stops { (stand : Stand S) → ForSpelled edit (λ it. StandsIn P.sent stand turns.old service.old
+        → IfErr result (StopsFrom P.sent R.makes stand it turns.new service.old service.new)) }
+    ensures leaves { (stand : Stand S) → ForSpelled edit (λ it. StandsIn P.sent stand turns.old service.old → Lasting stand
+        → LeavesIn R.makes stand it service.old service.new) }
     ensures fit { OnOk result (FitIn turns.new service.new) }
     ensures fit_on_err { IfErr result (λ end. (Harms end → ⊥) → FitIn turns.new service.new) }
     ensures goes { Goes (side_of P.Streams service.old) (side_of P.Streams service.new) }
@@ -57,9 +60,12 @@ pub(crate) fn answer_other<P: PageWorld, S, F, R: Reply<S, F>>(
     requires short { length line.now ≤ 8192 }
     requires some { 0 < length line.now }
     requires other { edit_of (Some line.now) ≡ [] }
-    ensures does { (stand : Stand S) (at : ℕ) → StandsIn P.sent stand turns.old service.old → OnOk result (DoesIn P.sent R.makes stand (Line at (Some line.now)) turns.new service.old service.new) }
-    ensures stops { (stand : Stand S) (at : ℕ) → StandsIn P.sent stand turns.old service.old → IfErr result (StopsFrom P.sent R.makes stand (Line at (Some line.now)) turns.new service.old service.new) }
-    ensures leaves { (stand : Stand S) (at : ℕ) → StandsIn P.sent stand turns.old service.old → Lasting stand → LeavesIn R.makes stand (Line at (Some line.now)) service.old service.new }
+    ensures does { (stand : Stand S) (at : ℕ) → StandsIn P.sent stand turns.old service.old
+        → OnOk result (DoesIn P.sent R.makes stand (Line at (Some line.now)) turns.new service.old service.new) }
+    ensures stops { (stand : Stand S) (at : ℕ) → StandsIn P.sent stand turns.old service.old
+        → IfErr result (StopsFrom P.sent R.makes stand (Line at (Some line.now)) turns.new service.old service.new) }
+    ensures leaves { (stand : Stand S) (at : ℕ) → StandsIn P.sent stand turns.old service.old → Lasting stand
+        → LeavesIn R.makes stand (Line at (Some line.now)) service.old service.new }
     ensures fit { OnOk result (FitIn turns.new service.new) }
     ensures fit_on_err { IfErr result (λ end. (Harms end → ⊥) → FitIn turns.new service.new) }
     ensures goes { Goes (side_of P.Streams service.old) (side_of P.Streams service.new) }
@@ -81,9 +87,12 @@ pub(crate) fn refuse_long<P: PageWorld, S, F, R: Reply<S, F>>(
     service: &mut Service<P>,
 ) -> Result<(), AnswerEnd<F>>
     requires fit { FitIn turns.old service.old }
-    ensures does { (stand : Stand S) (at : ℕ) → StandsIn P.sent stand turns.old service.old → OnOk result (DoesIn P.sent R.makes stand (Line at None) turns.new service.old service.new) }
-    ensures stops { (stand : Stand S) (at : ℕ) → StandsIn P.sent stand turns.old service.old → IfErr result (StopsFrom P.sent R.makes stand (Line at None) turns.new service.old service.new) }
-    ensures leaves { (stand : Stand S) (at : ℕ) → StandsIn P.sent stand turns.old service.old → Lasting stand → LeavesIn R.makes stand (Line at None) service.old service.new }
+    ensures does { (stand : Stand S) (at : ℕ) → StandsIn P.sent stand turns.old service.old
+        → OnOk result (DoesIn P.sent R.makes stand (Line at None) turns.new service.old service.new) }
+    ensures stops { (stand : Stand S) (at : ℕ) → StandsIn P.sent stand turns.old service.old
+        → IfErr result (StopsFrom P.sent R.makes stand (Line at None) turns.new service.old service.new) }
+    ensures leaves { (stand : Stand S) (at : ℕ) → StandsIn P.sent stand turns.old service.old → Lasting stand
+        → LeavesIn R.makes stand (Line at None) service.old service.new }
     ensures fit { OnOk result (FitIn turns.new service.new) }
     ensures fit_on_err { IfErr result (λ end. (Harms end → ⊥) → FitIn turns.new service.new) }
     ensures goes { Goes (side_of P.Streams service.old) (side_of P.Streams service.new) }

@@ -41,7 +41,8 @@ impl Reply<(), AllocError> for Spelling {
 /// line of more than 8,192 bytes is refused as too long. After `Ok` the input was read to its end.
 pub fn serve<P: PageWorld>(alloc: Global, service: &mut Service<P>) -> Result<(), ServeEnd>
     requires { (shown.view service.old).fit }
-    ensures done { shown.ForBook service.old (λ total book. OnOk result (SendsWhole P.left P.sent AreSpelled total book service.old service.new)) }
+    ensures done { shown.ForBook service.old (λ total book. OnOk result
+        (SendsWhole P.left P.sent AreSpelled total book service.old service.new)) }
     ensures within { OnOk result (IfSome (P.left (shown.pages service.old)) (λ input. length input ≤ 2 ^ 32)) }
     ensures ends { shown.ForBook service.old (λ total book. IfErr result (ServeEndsBy P.left P.sent total book service.old service.new)) }
     // at each moment a crash leaves a book with each edit whose reply was sent by then, and at most 64 edits more
@@ -53,12 +54,15 @@ pub fn serve<P: PageWorld>(alloc: Global, service: &mut Service<P>) -> Result<()
     // whatever the pages are
     // each frame that closes a session or answers in it names one that is open by those before it
     // and after `Ok` each may answer its line, one a line
-    ensures answers { OnOk result (IfSome (P.left (shown.pages service.old)) (λ input. SendsAnswers service.old.sessions input (P.sent (shown.pages service.old)) (P.sent (shown.pages service.new)))) }
+    ensures answers { OnOk result (IfSome (P.left (shown.pages service.old))
+        (λ input. SendsAnswers service.old.sessions input (P.sent (shown.pages service.old)) (P.sent (shown.pages service.new)))) }
     ensures named { SendsNamed service.old.sessions (P.sent (shown.pages service.old)) (P.sent (shown.pages service.new)) }
     ensures whole { OnOk result (IsReadUp (P.left (shown.pages service.old)) (P.left (shown.pages service.new))) }
     ensures long { result ≡ Err ServeEnd.InputTooLong → IfSome (P.left (shown.pages service.old)) (λ input. 2 ^ 32 < length input) }
-    ensures read { result ≡ Err ServeEnd.ReadFault → HasRisen (P.read_faults (shown.pages service.old)) (P.read_faults (shown.pages service.new)) }
-    ensures send { result ≡ Err ServeEnd.SendFault → HasRisen (P.send_faults (shown.pages service.old)) (P.send_faults (shown.pages service.new)) }
+    ensures read { result ≡ Err ServeEnd.ReadFault → HasRisen (P.read_faults (shown.pages service.old))
+        (P.read_faults (shown.pages service.new)) }
+    ensures send { result ≡ Err ServeEnd.SendFault → HasRisen (P.send_faults (shown.pages service.old))
+        (P.send_faults (shown.pages service.new)) }
     ensures disk { result ≡ Err ServeEnd.DiskFault → HasRisen (shown.view service.old).faults (shown.view service.new).faults }
     ensures faults { CountsFault (fault_in serve_fault result) (shown.view service.old) (shown.view service.new) }
     // a page is called damaged by the line behind the answered ones

@@ -25,11 +25,17 @@ pub(crate) fn settle<P: PageWorld, S, F, R: Reply<S, F>>(
     requires sound { (shown.view service.old).fit }
     requires few { length turns.old.edits.items ≤ most_ahead }
     requires are_edits { All IsEdit turns.old.edits.items }
-    ensures done { (held : Held S) → HeldIn P.sent held turns.old service.old → OnOk result (SettlesIn P.sent R.makes held turns.new service.old service.new) }
-    ensures stops { (held : Held S) → HeldIn P.sent held turns.old service.old → IfErr result (UnsettledIn P.sent R.makes held turns.old.edits.items turns.new service.new) }
-    ensures moments { (held : Held S) → HeldIn P.sent held turns.old service.old → AreTold held.sent → LeavesAhead R.makes held service.old service.new }
-    ensures gives { SpelledBy turns.old.edits.items (λ lines. GivesBy R.makes lines turns.old.kept.now turns.new.kept.now service.old.sessions service.new.sessions (P.sent (shown.pages service.old)) (P.sent (shown.pages service.new)) result) }
-    ensures blames { SpelledBy turns.old.edits.items (λ lines. BlamesSo P.sent R.makes lines turns.old.kept.now turns.new.kept.now service.old service.new result) }
+    ensures done { (held : Held S) → HeldIn P.sent held turns.old service.old
+        → OnOk result (SettlesIn P.sent R.makes held turns.new service.old service.new) }
+    ensures stops { (held : Held S) → HeldIn P.sent held turns.old service.old
+        → IfErr result (UnsettledIn P.sent R.makes held turns.old.edits.items turns.new service.new) }
+    ensures moments { (held : Held S) → HeldIn P.sent held turns.old service.old → AreTold held.sent
+        → LeavesAhead R.makes held service.old service.new }
+    ensures gives { SpelledBy turns.old.edits.items
+        (λ lines. GivesBy R.makes lines turns.old.kept.now turns.new.kept.now service.old.sessions service.new.sessions
+        (P.sent (shown.pages service.old)) (P.sent (shown.pages service.new)) result) }
+    ensures blames { SpelledBy turns.old.edits.items
+        (λ lines. BlamesSo P.sent R.makes lines turns.old.kept.now turns.new.kept.now service.old service.new result) }
     ensures same_reference { turns.new.kept.ghost_name ≡ turns.old.kept.ghost_name }
     ensures none { turns.new.edits.items ≡ [] }
     ensures sound { OnOk result (shown.view service.new).fit }

@@ -37,7 +37,8 @@ abbrev pub SumRows : RowsFrame → Frame
 SumRows frame = Rows frame
 
 -- the frame's fields are those of these rows on a grid, over the range of these samples or the one that is asked for
-pub record ShowsRows (session : ℕ) (g : Grid) (asked : Option ValueRange) (samples : List Sample) (rows : List Row) (frame : RowsFrame) : Type 0 where
+pub record ShowsRows (session : ℕ) (g : Grid) (asked : Option ValueRange) (samples : List Sample) (rows : List Row)
+    (frame : RowsFrame) : Type 0 where
   pub range : ValueRange
   pub shows : ShowsRange asked (values_of samples) range
   pub is : frame ≡ record { session = session; w = g.w; h = g.h; lo = range.lo; hi = range.hi; count = length rows; rows = rows }

@@ -59,7 +59,8 @@ fn rows_frame(session: u32, grid: Grid, range: Option<ValueRange>, rows: Rows) -
     requires rising { AreRising rows }
     requires drawable { All (IsDrawable grid.w) rows }
     requires ordered { All IsOrdered rows }
-    ensures frame { (samples : List Sample) → AreRowsOf grid (sample_points samples) rows → ShowsRows session grid range samples rows result }
+    ensures frame { (samples : List Sample) → AreRowsOf grid (sample_points samples) rows
+        → ShowsRows session grid range samples rows result }
     ensures fits { Fits (SumRows result) }
     ensures session { result.session ≡ session }
 {
@@ -91,9 +92,11 @@ pub fn sum_frame<P: Pages>(
     requires session { IsSession session }
     ensures reply { shown.ForBook store.old (λ total book. IfOk result (AnswersSum book request.now session)) }
     ensures outside { shown.ForBook store.old (λ total book. IfErr result IsOutside) }
-    ensures cause { IfErr result (λ e. IsSumCause e (shown.IsTold store.new) (shown.total store.old) (shown.view store.old) (shown.view store.new)) }
+    ensures cause { IfErr result (λ e. IsSumCause e (shown.IsTold store.new) (shown.total store.old) (shown.view store.old)
+        (shown.view store.new)) }
     ensures looks { LooksOnly store.old store.new }
-    ensures reads { shown.ForBook store.old (λ total book. ReadsAnswer book request.now (shown.view store.old).reads (shown.view store.new).reads) }
+    ensures reads { shown.ForBook store.old (λ total book. ReadsAnswer book request.now (shown.view store.old).reads
+        (shown.view store.new).reads) }
     ensures faults { CountsFault (fault_in step_fault result) (shown.view store.old) (shown.view store.new) }
     // whatever the pages are, the frame may be sent, and rows are in the session
     ensures fits { IfOk result Fits }

@@ -28,7 +28,8 @@ use Rattle.store_commands.specs.Checked.{AreWhole, IsBadForCheck, IsCheckEnd, Ch
 use Rattle.store_commands.specs.Checking.{EndsCheck, ChecksStore}
 
 -- no store was opened
-pub unchecked : (old new : View) (left left' before now : Option (List ℕ)) (sends sends_now : ℕ) (cause : OpeningCause) (end : End) → IsUnopened old new left left' before now cause → end ≡ opening_end cause
+pub unchecked : (old new : View) (left left' before now : Option (List ℕ)) (sends sends_now : ℕ) (cause : OpeningCause) (end : End)
+    → IsUnopened old new left left' before now cause → end ≡ opening_end cause
     → CheckEnds old new before now sends sends_now end
 unchecked old new left left' before now sends sends_now cause end u same = record {
   is =
@@ -42,17 +43,20 @@ unchecked old new left left' before now sends sends_now cause end u same = recor
   goes_on = opened_goes old new u.opens;
 }
   where
-    by : (cause : OpeningCause) → IsUnopenedEnd (opening_end cause) old new × (now ≡ before) → IsCheckEnd (opening_end cause) old new before now sends sends_now
+    by : (cause : OpeningCause) → IsUnopenedEnd (opening_end cause) old new × (now ≡ before)
+        → IsCheckEnd (opening_end cause) old new before now sends sends_now
     by opening.NoMemory is = is
     by cause is = is
 
 -- The store was opened and checked.
-module _ (old mid new : View) (before now : Option (List ℕ)) (sends sends_now : ℕ) (opens : Opens (page_count old.size) old mid) (pages : Honest old → book_pages (page_count old.size) mid.image ≡ book_pages (page_count old.size) old.image) where
+module _ (old mid new : View) (before now : Option (List ℕ)) (sends sends_now : ℕ) (opens : Opens (page_count old.size) old mid)
+    (pages : Honest old → book_pages (page_count old.size) mid.image ≡ book_pages (page_count old.size) old.image) where
   pub since_both : LeavesSame (page_count old.size) mid new → GoesOn mid new → LeavesSame (page_count old.size) old new
   since_both crash goes = λ total book holds.
       let IsSo : Image → ℕ → Type 0 = λ image sent. RecoversTo (page_count old.size) image total book in
       let later = crash total book (held old mid opens total book holds) in
-      since_on IsSo old mid new (opened_since old mid opens total book holds) goes (λ at image low high left. later.here at image (omega (arith, low)) high left)
+      since_on IsSo old mid new (opened_since old mid opens total book holds) goes
+      (λ at image low high left. later.here at image (omega (arith, low)) high left)
 
   whole_before : (counts : Counts) → AreWhole (page_count old.size) mid counts → AreWhole (page_count old.size) old counts
   whole_before counts whole = record {
@@ -70,7 +74,8 @@ module _ (old mid new : View) (before now : Option (List ℕ)) (sends sends_now 
         subst P (pages honest) (whole.sound (opens.honest honest));
   }
 
-  bad_before : (place : ℕ) → IsDamagedLater IsBadForCheck (page_count old.size) mid place → IsDamagedLater IsBadForCheck (page_count old.size) old place
+  bad_before : (place : ℕ) → IsDamagedLater IsBadForCheck (page_count old.size) mid place
+      → IsDamagedLater IsBadForCheck (page_count old.size) old place
   bad_before place bad = record {
     page = bad.page;
     place_is = bad.place_is;
@@ -80,19 +85,39 @@ module _ (old mid new : View) (before now : Option (List ℕ)) (sends sends_now 
         subst P (pages honest) (bad.bad (opens.honest honest));
   }
 
-  checked : mid.faults ≡ old.faults → (end : End) → EndsCheck end (page_count old.size) mid new before now sends sends_now → IsCheckEnd end old new before now sends sends_now
+  checked : mid.faults ≡ old.faults → (end : End) → EndsCheck end (page_count old.size) mid new before now sends sends_now
+      → IsCheckEnd end old new before now sends sends_now
   checked quiet Done all =
-      record { counts = all.counts; of_book = λ total book is. all.of_book total book (held old mid opens total book is); whole = whole_before all.counts all.whole; sent = all.sent }
+      record {
+        counts = all.counts;
+        of_book = λ total book is. all.of_book total book (held old mid opens total book is);
+        whole = whole_before all.counts all.whole;
+        sent = all.sent;
+      }
   checked quiet NoMemory same = (tt, same)
-  checked quiet SendFault part =
-      (part.0, record { counts = part.1.counts; of_book = λ total book is. part.1.of_book total book (held old mid opens total book is); whole = whole_before part.1.counts part.1.whole; sent = part.1.sent })
+  checked quiet SendFault part = (
+    part.0,
+    record {
+      counts = part.1.counts;
+      of_book = λ total book is. part.1.of_book total book (held old mid opens total book is);
+      whole = whole_before part.1.counts part.1.whole;
+      sent = part.1.sent;
+    },
+  )
   checked quiet DiskFault fault = (risen_since old.faults mid.faults new.faults quiet fault.0, fault.1)
-  checked quiet (DamagedPage page) bad = (bad_before (block_of page) bad.0, λ total book is. bad.1 total book (held old mid opens total book is), bad.2)
+  checked quiet (DamagedPage page) bad = (
+    bad_before (block_of page) bad.0,
+    λ total book is. bad.1 total book (held old mid opens total book is),
+    bad.2,
+  )
   checked quiet end none = absurd none
 
 -- the same, where equals stand for equals
-pub ends_opened : (count : ℕ) (old mid new : View) (before mid_before now : Option (List ℕ)) (sends mid_sends sends_now : ℕ) (end : End) → Opens (page_count old.size) old mid → mid.faults ≡ old.faults → count ≡ page_count old.size → (Honest old → book_pages count mid.image ≡ book_pages count old.image)
-    → mid_before ≡ before → mid_sends ≡ sends → ChecksStore count mid new mid_before now mid_sends sends_now end → CheckEnds old new before now sends sends_now end
+pub ends_opened : (count : ℕ) (old mid new : View) (before mid_before now : Option (List ℕ)) (sends mid_sends sends_now : ℕ) (end : End)
+    → Opens (page_count old.size) old mid → mid.faults ≡ old.faults → count ≡ page_count old.size
+    → (Honest old → book_pages count mid.image ≡ book_pages count old.image)
+    → mid_before ≡ before → mid_sends ≡ sends → ChecksStore count mid new mid_before now mid_sends sends_now end
+    → CheckEnds old new before now sends sends_now end
 ends_opened count old mid new before mid_before now sends mid_sends sends_now end opens quiet counted pages same same_sends s =
     let C : ℕ → Type 0 = λ c. ChecksStore c mid new mid_before now mid_sends sends_now end in
     let G : ℕ → Type 0 = λ c. Honest old → book_pages c mid.image ≡ book_pages c old.image in

@@ -26,7 +26,8 @@ use Rattle.run_ends.specs.declared.ending.End.TheVariants.{Done, NoMemory, ReadF
 use Rattle.run_ends.specs.declared.ending.End.TheVariants.{BadInput, InputTooLong, TooSmall, UnknownSeries, Refused}
 use Rattle.store_commands.proofs.LoadEnds.{small_never}
 
-pages_so : (count total : ℕ) (P Q : Image → Type 0) (disk : View) → ((image : Image) → P image → Q image) → HoldsPages count total P disk → HoldsPages count total Q disk
+pages_so : (count total : ℕ) (P Q : Image → Type 0) (disk : View) → ((image : Image) → P image → Q image) → HoldsPages count total P disk
+    → HoldsPages count total Q disk
 pages_so count total P Q disk more holds = record {
   honest = holds.honest;
   on = record { readable = holds.on.readable; within = holds.on.within; so = more _ holds.on.so };
@@ -44,20 +45,29 @@ at P (y ∷ ys) (suc i) x all is = at P ys i x (All-tail P y ys all) is
 same_bytes : (bytes text : List ℕ) → Some bytes ≡ sent_after text (Some []) → bytes ≡ text
 same_bytes bytes text is = cc
 
-pub copied : ((total : ℕ) (name : List ℕ) (book : List Series) (series begun : Series) (count : ℕ) (image : Image) → IsSeries series → IsBegunAs series begun → IsNamed book name begun → IsLoaded total name book begun (export_text series None) count image → StandsForSame total name series image)
-    → (name copy : List ℕ) (source_count count : ℕ) (source old new : View) (bytes : List ℕ) (before now : Option (List ℕ)) → ExportsAll name None source_count source (Some []) (Some bytes) → LoadsAll copy count old new bytes before now → IsCopied name copy source_count count source old new
-copied law name copy source_count count source old new bytes before now exported loads = λ total book holds series named total' book' held begun named' alike.
+pub copied : ((total : ℕ) (name : List ℕ) (book : List Series) (series begun : Series) (count : ℕ) (image : Image) → IsSeries series
+    → IsBegunAs series begun → IsNamed book name begun → IsLoaded total name book begun (export_text series None) count image
+    → StandsForSame total name series image)
+    → (name copy : List ℕ) (source_count count : ℕ) (source old new : View) (bytes : List ℕ) (before now : Option (List ℕ))
+    → ExportsAll name None source_count source (Some []) (Some bytes) → LoadsAll copy count old new bytes before now
+    → IsCopied name copy source_count count source old new
+copied law name copy source_count count source old new bytes before now exported loads = λ total book holds series named total' book' held
+    begun named' alike.
     let same : bytes ≡ export_text series None = same_bytes bytes (export_text series None) (exported total book holds series named) in
     let done = loads total' book' held begun named' in
-    let fits : IsSeries series = at IsSeries book named.id series (holds.images source.image holds.honest).stands.store.is_book.all_in_range named.there in
+    let fits : IsSeries series = at IsSeries book named.id series
+    (holds.images source.image holds.honest).stands.store.is_book.all_in_range named.there in
     let P : Image → Type 0 = IsLoaded total' copy book' begun bytes done.0 in
     let Q : Image → Type 0 = StandsForSame total' copy series in
     pages_so count total' P Q new (λ image loaded.
     let L : List ℕ → Type 0 = λ l. IsLoaded total' copy book' begun l done.0 image in
     law total' copy book' series begun done.0 image fits alike named' (subst L same loaded)) done.1
 
-pub exported_same : ((series after : Series) (window : Option Window) → HoldsSame series after → export_text after window ≡ export_text series window)
-    → (copy : List ℕ) (count total : ℕ) (series : Series) (window : Option Window) (disk : View) (before now : Option (List ℕ)) → HoldsPages count total (StandsForSame total copy series) disk → ExportsAll copy window count disk before now → now ≡ sent_after (export_text series window) before
+pub exported_same : ((series after : Series) (window : Option Window) → HoldsSame series after
+    → export_text after window ≡ export_text series window)
+    → (copy : List ℕ) (count total : ℕ) (series : Series) (window : Option Window) (disk : View) (before now : Option (List ℕ))
+    → HoldsPages count total (StandsForSame total copy series) disk → ExportsAll copy window count disk before now
+    → now ≡ sent_after (export_text series window) before
 exported_same law copy count total series window disk before now holds exported =
     let so = holds.on.so in
     let held : HoldsBook count total so.book disk = record {
@@ -74,10 +84,14 @@ exported_same law copy count total series window disk before now holds exported 
 given : (left : Option (List ℕ)) (bytes : List ℕ) (P : List ℕ → Type 0) → left ≡ Some bytes → IfSome left P → P bytes
 given left bytes P is so = let Q : Option (List ℕ) → Type 0 = λ l. IfSome l P in subst Q is so
 
-module _ (law : (total : ℕ) (name : List ℕ) (book : List Series) (series begun : Series) (count : ℕ) (image : Image) → IsSeries series → IsBegunAs series begun → IsNamed book name begun → IsLoaded total name book begun (export_text series None) count image → StandsForSame total name series image)
-    (through : (total : ℕ) (name : List ℕ) (book : List Series) (series begun : Series) → IsSeries series → HasRoomFor total name book series → IsNamed book name begun → GoesThrough total name book begun (export_text series None)) where
+module _ (law : (total : ℕ) (name : List ℕ) (book : List Series) (series begun : Series) (count : ℕ) (image : Image) → IsSeries series
+    → IsBegunAs series begun → IsNamed book name begun → IsLoaded total name book begun (export_text series None) count image
+    → StandsForSame total name series image)
+    (through : (total : ℕ) (name : List ℕ) (book : List Series) (series begun : Series) → IsSeries series
+    → HasRoomFor total name book series → IsNamed book name begun → GoesThrough total name book begun (export_text series None)) where
   -- how a load ends where there is room
-  module _ (copy : List ℕ) (series : Series) (bytes : List ℕ) (old new : View) (t : Traffic) (is : IsSeries series) (text : bytes ≡ export_text series None) (told : t.left ≡ Some bytes) (has : HoldsRoomFor copy series old) where
+  module _ (copy : List ℕ) (series : Series) (bytes : List ℕ) (old new : View) (t : Traffic) (is : IsSeries series)
+      (text : bytes ≡ export_text series None) (told : t.left ≡ Some bytes) (has : HoldsRoomFor copy series old) where
     -- it goes through
     fits : GoesThrough has.total copy has.book has.room.new.begun (export_text series None)
     fits = through has.total copy has.book series has.room.new.begun is has.room has.room.new.named
@@ -88,10 +102,13 @@ module _ (law : (total : ℕ) (name : List ℕ) (book : List Series) (series beg
 
     ends_fitting : (end : End) → IsLoadEnd end copy old new t → EndsFitting copy series bytes old new end
     ends_fitting Done came =
-        let loaded = of_text (λ input. LoadsAll copy (page_count old.size) old new input t.sent t.sent_now) came.1 has.total has.book has.holds has.room.new.begun has.room.new.named in (
+        let loaded = of_text (λ input. LoadsAll copy (page_count old.size) old new input t.sent t.sent_now) came.1 has.total has.book
+        has.holds has.room.new.begun has.room.new.named in (
           has.total,
-          pages_so (page_count old.size) has.total (IsLoaded has.total copy has.book has.room.new.begun (export_text series None) loaded.0) (StandsForSame has.total copy series) new
-              (λ image so. law has.total copy has.book series has.room.new.begun loaded.0 image is has.room.new.alike has.room.new.named so) loaded.1,
+          pages_so (page_count old.size) has.total (IsLoaded has.total copy has.book has.room.new.begun (export_text series None) loaded.0)
+              (StandsForSame has.total copy series) new
+              (λ image so. law has.total copy has.book series has.room.new.begun loaded.0 image is has.room.new.alike has.room.new.named so)
+              loaded.1,
         )
     ends_fitting NoMemory came = tt
     ends_fitting ReadFault came = tt
@@ -100,18 +117,23 @@ module _ (law : (total : ℕ) (name : List ℕ) (book : List Series) (series beg
     ends_fitting (DamagedBlock block) came = absurd (came.0.1 has.total has.book has.holds)
     ends_fitting (DamagedPage page) came = absurd (came.1 has.total has.book has.holds)
     ends_fitting (BadInput place) came =
-        let bad = of_text (λ input. LoadsToBad copy (page_count old.size) old new input place) came.0 has.total has.book has.holds has.room.new.begun has.room.new.named in
+        let bad = of_text (λ input. LoadsToBad copy (page_count old.size) old new input place) came.0 has.total has.book has.holds
+        has.room.new.begun has.room.new.named in
         absurd (fits.good place (pages_of (page_count old.size) new.image) bad.on.so)
     ends_fitting InputTooLong came = given t.left bytes (λ input. 2 ^ 32 < length input) told came.0
     ends_fitting (TooSmall blocks) came = absurd (small_never old has.total has.book has.holds came.0.1)
     ends_fitting UnknownSeries came = absurd (came.0 has.total has.book has.holds has.room.new.begun has.room.new.named)
     ends_fitting (Refused place number) came =
-        let refused = of_text (λ input. RefusesRun copy (page_count old.size) old new input place number) came.0 has.total has.book has.holds has.room.new.begun has.room.new.named in
+        let refused = of_text (λ input. RefusesRun copy (page_count old.size) old new input place number) came.0 has.total has.book
+        has.holds has.room.new.begun has.room.new.named in
         absurd (fits.accepted place refused.refusal (pages_of (page_count old.size) new.image) refused.so.on.so)
     ends_fitting end came = absurd came.0
 
-  pub fits_into : (name copy : List ℕ) (source_count : ℕ) (source old new : View) (bytes : List ℕ) (t : Traffic) (end : End) → ExportsAll name None source_count source (Some []) (Some bytes) → t.left ≡ Some bytes → LoadEnds copy old new t end → FitsInto name copy source_count source old new bytes end
+  pub fits_into : (name copy : List ℕ) (source_count : ℕ) (source old new : View) (bytes : List ℕ) (t : Traffic) (end : End)
+      → ExportsAll name None source_count source (Some []) (Some bytes) → t.left ≡ Some bytes → LoadEnds copy old new t end
+      → FitsInto name copy source_count source old new bytes end
   fits_into name copy source_count source old new bytes t end exported told ends = λ total book holds series named has.
       let same : bytes ≡ export_text series None = same_bytes bytes (export_text series None) (exported total book holds series named) in
-      let is : IsSeries series = at IsSeries book named.id series (holds.images source.image holds.honest).stands.store.is_book.all_in_range named.there in
+      let is : IsSeries series = at IsSeries book named.id series
+      (holds.images source.image holds.honest).stands.store.is_book.all_in_range named.there in
       ends_fitting copy series bytes old new t is same told has end ends.is

@@ -1,5 +1,6 @@
 -- A page of an opened store that was called damaged, a name that its catalog lacks, and the scale that it tells of a name.
-use Rattle.std.proofs.Common.{◌≡◌, ◌∙◌, ℕ, zero, suc, ◌<◌, List, [], ◌∷◌, Option, Some, None, Result, Ok, Err, IfErr, IfOk, IfSome, length, refl, ap, sym, subst, arith}
+use Rattle.std.proofs.Common.{◌≡◌, ◌∙◌, ℕ, zero, suc, ◌<◌, List, [], ◌∷◌, Option, Some, None, Result, Ok, Err, IfErr, IfOk, IfSome, length}
+use Rattle.std.proofs.Common.{refl, ap, sym, subst, arith}
 use Rattle.std.specs.List.{slice_get}
 use Rattle.block_disk.specs.View.{Honest, Image, View}
 use Rattle.gate_pages.specs.Journal.{pages_of}
@@ -21,7 +22,8 @@ use Rattle.series_catalog.specs.declared.stored_series.StoredSeries.{StoredSerie
 use Rattle.series_load.specs.Ends.{EndsAtBadOf, IsRead, OfScale}
 
 -- it is so of the disk, whose pages are of version 2
-pub later_bad : (count count' : ℕ) (new : View) (page : ℕ) → count' ≡ count → page < count' → (Honest new → IsBadForRequest count' (pages_of count' new.image) page) → IsDamagedLater IsBadForRequest count new (block_of page)
+pub later_bad : (count count' : ℕ) (new : View) (page : ℕ) → count' ≡ count → page < count'
+    → (Honest new → IsBadForRequest count' (pages_of count' new.image) page) → IsDamagedLater IsBadForRequest count new (block_of page)
 later_bad count count' new page same within bad =
     let P : ℕ → Type 0 = λ n. IsBadForRequest n (pages_of n new.image) page in
     let Q : Image → Type 0 = λ pages. IsBadForRequest count pages page in
@@ -29,10 +31,12 @@ later_bad count count' new page same within bad =
       page = page;
       place_is = refl;
       within = omega (arith, within, same);
-      bad = λ honest. let here = subst P same (bad honest) in subst Q (sym (spelled_current (pages_of count new.image) here.numbers here.keeps.spelled)) here;
+      bad = λ honest. let here = subst P same (bad honest) in
+          subst Q (sym (spelled_current (pages_of count new.image) here.numbers here.keeps.spelled)) here;
     }
 
-pub lacks_record : (count : ℕ) (disk : View) (s : Superblock) (name : List ℕ) → RestsNew count disk → (Honest disk → Keeps count s (pages_of count disk.image 0))
+pub lacks_record : (count : ℕ) (disk : View) (s : Superblock) (name : List ℕ) → RestsNew count disk
+    → (Honest disk → Keeps count s (pages_of count disk.image 0))
     → (Honest disk → (id : ℕ) → id < s.series → (entry (pages_of count disk.image) id).name ≡ name → ⊥) → LacksRecord count disk name
 lacks_record count disk s name rests keeps none = λ honest.
     let P : Image → Type 0 = λ image. HasNoRecord count image name in
@@ -45,7 +49,8 @@ low_of {A} [] id a at = cc
 low_of {A} (x ∷ xs) zero a at = omega arith
 low_of {A} (x ∷ xs) (suc id) a at = omega (arith, low_of xs id a at)
 
-has_scale : (image : Image) (s : Superblock) (items : List StoredSeries) (name : List ℕ) (id : ℕ) (one : StoredSeries) → length items ≡ s.series
+has_scale : (image : Image) (s : Superblock) (items : List StoredSeries) (name : List ℕ) (id : ℕ) (one : StoredSeries)
+    → length items ≡ s.series
     → AreAsTold image items → slice_get items id ≡ Some one → one.name ≡ name → HasScale image s name one.scale
 has_scale image s items name id one count told at named = record {
   id = id;
@@ -61,7 +66,12 @@ module _ (count : ℕ) (disk : View) (s : Superblock) (items : List StoredSeries
   tells_scale id one at named = λ honest.
       let P : Image → Type 0 = λ image. SaysNumbers count image (λ n. HasScale image n name one.scale) in
       subst P (sym (rests.current honest))
-      (record { numbers = s; keeps = keeps honest; so = has_scale (pages_of count disk.image) s items name id one counted (told honest) at named })
+      (record {
+        numbers = s;
+        keeps = keeps honest;
+        so = has_scale (pages_of count disk.image) s items name id one counted
+            (told honest) at named;
+      })
 
   by_record : (input : List ℕ) (end : End) → EndsAtBadOf items name input end → IsAtLine name count disk input end
   by_record input (BadInput at) is = record { scale = is.one.scale; tells = tells_scale is.id is.one is.there is.named; line = is.so }

@@ -15,7 +15,9 @@ use Rattle.store_commands.specs.Checking.{check_end}
 use Rattle.store_commands.specs.Exporting.{export_end}
 
 -- a store that wasn't checked
-pub counts_unchecked : (error : StoreError) (told : Type 0) (s : Superblock) (old new : View) → new.beside ≡ old.beside → IsCheckCause error told s old new → (error ≢ store.DiskFault → new.faults ≡ old.faults) → CountsFault (end_fault (check_end error)) old new
+pub counts_unchecked : (error : StoreError) (told : Type 0) (s : Superblock) (old new : View) → new.beside ≡ old.beside
+    → IsCheckCause error told s old new → (error ≢ store.DiskFault → new.faults ≡ old.faults)
+    → CountsFault (end_fault (check_end error)) old new
 counts_unchecked (store.Refused refusal) told s old new beside cause quiet = absurd cause
 counts_unchecked store.NotAStore told s old new beside cause quiet = absurd cause
 counts_unchecked store.DiskFault told s old new beside cause quiet = counts_disk old new beside cause

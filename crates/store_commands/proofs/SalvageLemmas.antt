@@ -24,18 +24,23 @@ more_pages count s few rules = record {
   series_high = rules.series_high;
 }
 
-pub has_each : BooksHoldTheirSeries → (count total : ℕ) (book : List Series) (id : ℕ) (series : Series) (disk : View) → HoldsBook count total book disk → slice_get book id ≡ Some series → HasSeries count disk series.name series
+pub has_each : BooksHoldTheirSeries → (count total : ℕ) (book : List Series) (id : ℕ) (series : Series) (disk : View)
+    → HoldsBook count total book disk → slice_get book id ≡ Some series → HasSeries count disk series.name series
 has_each each count total book id series disk holds there =
     let recovers : RecoversTo count disk.image total book = holds.images disk.image holds.honest in
     let stands : StandsForBook (book_pages count disk.image) total book = recovers.stands in
     let s : Superblock = stands.superblock in
     record {
       numbers = s;
-      keeps = record { spelled = stands.store.stands.spelled; rules = more_pages count s (omega (arith, stands.total_is, recovers.within)) stands.store.stands.rules };
+      keeps = record {
+        spelled = stands.store.stands.spelled;
+        rules = more_pages count s (omega (arith, stands.total_is, recovers.within)) stands.store.stands.rules;
+      };
       so = each (book_pages count disk.image) s book id series stands.store there;
     }
 
-pub held_fit : (count : ℕ) (disk : View) (name : List ℕ) (series : Series) → HasSeries count disk name series → HasWhereFit count disk name series
+pub held_fit : (count : ℕ) (disk : View) (name : List ℕ) (series : Series) → HasSeries count disk name series
+    → HasWhereFit count disk name series
 held_fit count disk name series has = record {
   numbers = has.numbers;
   keeps = has.keeps;

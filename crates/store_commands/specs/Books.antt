@@ -20,7 +20,8 @@ OfBook count disk IsSo = (total : ℕ) (book : List Series) → HoldsBook count 
 
 -- this is so where its pages stand for a book
 abbrev pub OfPages : ℕ → View → (ℕ → List Series → Type 0) → Type 0
-OfPages count disk IsSo = (total : ℕ) (book : List Series) → Honest disk → StandsForBook (pages_of count disk.image) total book → IsSo total book
+OfPages count disk IsSo = (total : ℕ) (book : List Series) → Honest disk → StandsForBook (pages_of count disk.image) total book
+    → IsSo total book
 
 -- the pages stand for the book, or the disk holds it
 abbrev pub Stands : ℕ → Image → List Series → Type 0

@@ -25,10 +25,12 @@ use Rattle.store_commands.specs.Books.{OfBook, Never, LeavesSame, SendsPartOf}
 -- the three lines of a check
 unfoldable pub counts_text : Counts → List ℕ
 counts_text counts =
-    codes "series " ++ (decimal counts.series ++ (codes "\nvalues " ++ (decimal counts.values ++ (codes "\npages " ++ (decimal counts.used ++ (codes " of " ++ (decimal counts.total ++ codes "\n")))))))
+    codes "series " ++ (decimal counts.series ++ (codes
+    "\nvalues " ++ (decimal counts.values ++ (codes
+    "\npages " ++ (decimal counts.used ++ (codes " of " ++ (decimal counts.total ++ codes "\n")))))))
 
--- The pages for which the disk stands are sound, in version 2, all of them: page 0 has these numbers, in range, which are those that were counted,
--- the pages of the catalog keep their layout, and those of the trees and of the chain are right for their places.
+-- The pages for which the disk stands are sound, in version 2, all of them: page 0 has these numbers, in range, which are those
+-- that were counted, the pages of the catalog keep their layout, and those of the trees and of the chain are right for their places.
 pub record AreWhole (count : ℕ) (disk : View) (counts : Counts) : Type 0 where
   pub superblock : Superblock
   pub numbers : AreNumbers superblock counts
@@ -53,7 +55,8 @@ pub record SendsCountsPart (count : ℕ) (disk : View) (before now : Option (Lis
 
 -- the page is below the total that page 0 says, and is one of the trees or of the chain that is bad for its place
 abbrev pub IsBadForCheck : ℕ → Image → ℕ → Type 0
-IsBadForCheck count image page = SaysNumbers count image (λ s. (page < s.total) × (HasBadTree image s page ⊎ HasBadLink image s s.chain page))
+IsBadForCheck count image page = SaysNumbers count image (λ s. (page < s.total)
+    × (HasBadTree image s page ⊎ HasBadLink image s s.chain page))
 
 -- at most the blocks were read that an opening reads, and each page of the store once
 abbrev pub ReadsStore : ℕ → View → View → Type 0

@@ -26,7 +26,8 @@ pub record IsSentAs (text : List ℕ) (before now : Option (List ℕ)) (sends se
   pub part : code ≡ 5 → SendsPartOf text before now
 
 -- with another code than 0 and 5 it sent nothing
-pub unsent : (code : ℕ) (before now : Option (List ℕ)) → (code ≡ 0) ⊎ ((code ≡ 3) ⊎ (code ≡ 5)) → (code ≡ 3 → now ≡ before) → (code ≡ 0 → ⊥) → (code ≡ 5 → ⊥) → now ≡ before
+pub unsent : (code : ℕ) (before now : Option (List ℕ)) → (code ≡ 0) ⊎ ((code ≡ 3) ⊎ (code ≡ 5)) → (code ≡ 3 → now ≡ before) → (code ≡ 0 → ⊥)
+    → (code ≡ 5 → ⊥) → now ≡ before
 unsent code before now (inl is) none whole part = absurd (whole is)
 unsent code before now (inr (inl is)) none whole part = none is
 unsent code before now (inr (inr is)) none whole part = absurd (part is)

@@ -36,4 +36,5 @@ EndsFitting name series bytes old new end = ⊥
 
 -- so it is where the second disk has room for the first one's series
 abbrev pub FitsInto : List ℕ → List ℕ → ℕ → View → View → View → List ℕ → End → Type 0
-FitsInto name copy source_count source old new bytes end = OfSeries source_count source name (λ total book series. HoldsRoomFor copy series old → EndsFitting copy series bytes old new end)
+FitsInto name copy source_count source old new bytes end = OfSeries source_count source name
+    (λ total book series. HoldsRoomFor copy series old → EndsFitting copy series bytes old new end)

@@ -24,11 +24,13 @@ use Rattle.store_commands.specs.Unopened.{IsUnopenedEnd}
 
 -- the text of the series of this name was sent, in the window if there is one
 abbrev pub ExportsAll : List ℕ → Option Window → ℕ → View → Option (List ℕ) → Option (List ℕ) → Type 0
-ExportsAll name window count disk before now = OfSeries count disk name (λ total book series. now ≡ sent_after (export_text series window) before)
+ExportsAll name window count disk before now = OfSeries count disk name
+    (λ total book series. now ≡ sent_after (export_text series window) before)
 
 -- the first bytes of it were sent
 abbrev pub ExportsPart : List ℕ → Option Window → ℕ → View → Option (List ℕ) → Option (List ℕ) → Type 0
-ExportsPart name window count disk before now = OfSeries count disk name (λ total book series. SendsPartOf (export_text series window) before now)
+ExportsPart name window count disk before now = OfSeries count disk name
+    (λ total book series. SendsPartOf (export_text series window) before now)
 
 -- at most the blocks were read that an opening reads, and each page of the series' tree once
 abbrev pub ReadsSeries : List ℕ → ℕ → View → View → Type 0
@@ -40,7 +42,8 @@ IsBadForExport name count image page = SaysNumbers count image (λ s. (page < s.
 
 -- no store was opened, and nothing was sent; or a page was found bad as the series was read
 abbrev pub IsDamagedForExport : List ℕ → View → Option (List ℕ) → Option (List ℕ) → ℕ → Type 0
-IsDamagedForExport name old before now place = (IsDamagedAtFirst old place × (now ≡ before)) ⊎ IsDamagedLater (IsBadForExport name) (page_count old.size) old place
+IsDamagedForExport name old before now place = (IsDamagedAtFirst old place × (now ≡ before))
+    ⊎ IsDamagedLater (IsBadForExport name) (page_count old.size) old place
 
 -- why an export ended, and what it sent where no series was read
 abbrev pub IsExportEnd : End → List ℕ → Option Window → View → View → Option (List ℕ) → Option (List ℕ) → ℕ → ℕ → Type 0
@@ -54,7 +57,8 @@ IsExportEnd UnknownSeries name window old new before now sends sends_now = HasNo
 IsExportEnd end name window old new before now sends sends_now = IsUnopenedEnd end old new × (now ≡ before)
 
 -- the same, and what an export sent and left
-pub record ExportEnds (name : List ℕ) (window : Option Window) (old new : View) (before now : Option (List ℕ)) (sends sends_now : ℕ) (end : End) : Type 0 where
+pub record ExportEnds (name : List ℕ) (window : Option Window) (old new : View) (before now : Option (List ℕ)) (sends sends_now : ℕ)
+    (end : End) : Type 0 where
   pub is : IsExportEnd end name window old new before now sends sends_now
   pub part : ExportsPart name window (page_count old.size) old before now
   pub unnamed : Unnamed (page_count old.size) old name (λ total book. Contains unnamed_ends end)

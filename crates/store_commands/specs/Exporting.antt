@@ -44,7 +44,8 @@ EndsExport ends.UnknownSeries name window count old new before now sends sends_n
 EndsExport end name window count old new before now sends sends_now = ⊥
 
 -- The same, and what it sent and left.
-pub record ExportsStore (name : List ℕ) (window : Option Window) (count : ℕ) (old new : View) (before now : Option (List ℕ)) (sends sends_now : ℕ) (end : End) : Type 0 where
+pub record ExportsStore (name : List ℕ) (window : Option Window) (count : ℕ) (old new : View) (before now : Option (List ℕ))
+    (sends sends_now : ℕ) (end : End) : Type 0 where
   pub is : EndsExport end name window count old new before now sends sends_now
   pub part : ExportsPart name window count old before now
   pub unnamed : Unnamed count old name (λ total book. end ≡ ends.UnknownSeries)
@@ -61,4 +62,5 @@ pub record ExportsStore (name : List ℕ) (window : Option Window) (count : ℕ)
 
 -- the same over the pages of an open store on a world, by what passed through the streams
 abbrev pub ExportsOn : {W : Type 0} {disk : Ghosts W} → List ℕ → Option Window → (W → View) → GatePages W disk → W → Traffic → End → Type 0
-ExportsOn name window view pages new t end = ExportsStore name window (gate.count pages) (view (gate.disk pages)) (view new) t.sent t.sent_now t.sends t.sends_now end
+ExportsOn name window view pages new t end = ExportsStore name window (gate.count pages) (view (gate.disk pages))
+    (view new) t.sent t.sent_now t.sends t.sends_now end

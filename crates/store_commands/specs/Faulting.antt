@@ -14,7 +14,8 @@ use Rattle.run_ends.specs.Faults.{end_fault}
 use Rattle.run_ends.specs.declared.status.Status.{Status}
 
 -- by a status that is this one
-pub counts_as : (end this : Status) (old new : View) → end ≡ this → CountsFault (code_fault this.code) old new → CountsFault (code_fault end.code) old new
+pub counts_as : (end this : Status) (old new : View) → end ≡ this → CountsFault (code_fault this.code) old new
+    → CountsFault (code_fault end.code) old new
 counts_as end this old new same counts = let P : Status → Type 0 = λ s. CountsFault (code_fault s.code) old new in subst P (sym same) counts
 
 -- by what a result tells
@@ -27,18 +28,23 @@ told_by_code Done = refl
 told_by_code end = refl
 
 -- by the status of an end
-pub counts_end : (end : End) (status : Status) (old new : View) → status ≡ status_of end → CountsFault (end_fault end) old new → CountsFault (code_fault status.code) old new
-counts_end end status old new same counts = counts_as status (status_of end) old new same (counts_told (end_fault end) (code_fault (code_of end)) old new (told_by_code end) counts)
+pub counts_end : (end : End) (status : Status) (old new : View) → status ≡ status_of end → CountsFault (end_fault end) old new
+    → CountsFault (code_fault status.code) old new
+counts_end end status old new same counts = counts_as status (status_of end) old new same
+    (counts_told (end_fault end) (code_fault (code_of end)) old new (told_by_code end) counts)
 
 -- a store that isn't opened
-pub counts_unopened : (cause : OpeningCause) (old new : View) → new.beside ≡ old.beside → Prevents cause old new → (cause ≢ opening.DiskFault → new.faults ≡ old.faults) → CountsFault (code_fault (opening_status cause).code) old new
+pub counts_unopened : (cause : OpeningCause) (old new : View) → new.beside ≡ old.beside → Prevents cause old new
+    → (cause ≢ opening.DiskFault → new.faults ≡ old.faults) → CountsFault (code_fault (opening_status cause).code) old new
 counts_unopened (opening.TooSmall size) old new beside prevents quiet = counts_no_disk old new beside (quiet (λ is. cc))
 counts_unopened (opening.Damaged block) old new beside prevents quiet = counts_no_disk old new beside (quiet (λ is. cc))
 counts_unopened opening.DiskFault old new beside prevents quiet = counts_disk old new beside prevents
 counts_unopened opening.NoMemory old new beside prevents quiet = counts_no_disk old new beside (quiet (λ is. cc))
 
 -- the same by the end
-pub counts_unopened_end : (cause : OpeningCause) (end : End) (old new : View) → end ≡ opening_end cause → new.beside ≡ old.beside → Prevents cause old new → (cause ≢ opening.DiskFault → new.faults ≡ old.faults) → CountsFault (end_fault end) old new
+pub counts_unopened_end : (cause : OpeningCause) (end : End) (old new : View) → end ≡ opening_end cause → new.beside ≡ old.beside
+    → Prevents cause old new → (cause ≢ opening.DiskFault → new.faults ≡ old.faults) → CountsFault (end_fault end) old new
 counts_unopened_end cause end old new same beside prevents quiet =
     let P : End → Type 0 = λ e. CountsFault (end_fault e) old new in
-    subst P (sym same) (counts_told (code_fault (opening_status cause).code) (end_fault (opening_end cause)) old new (sym (told_by_code (opening_end cause))) (counts_unopened cause old new beside prevents quiet))
+    subst P (sym same) (counts_told (code_fault (opening_status cause).code) (end_fault (opening_end cause)) old new
+    (sym (told_by_code (opening_end cause))) (counts_unopened cause old new beside prevents quiet))

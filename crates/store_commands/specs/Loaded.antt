@@ -52,12 +52,14 @@ Unnamed count disk name IsSo = OfBook count disk (λ total book. id_of name book
 -- all lines of the input are rows, the sets of their runs were done, and how many readings they have was sent
 abbrev pub LoadsAll : List ℕ → ℕ → View → View → List ℕ → Option (List ℕ) → Option (List ℕ) → Type 0
 LoadsAll name count old new input before now = OfSeries count old name (λ total book series.
-    (readings : ℕ) × HoldsPages count total (IsLoaded total name book series input readings) new × (now ≡ sent_after (loaded_text readings) before))
+    (readings : ℕ) × HoldsPages count total (IsLoaded total name book series input readings) new
+    × (now ≡ sent_after (loaded_text readings) before))
 
 -- the same, of which the first bytes were sent
 abbrev pub LoadsAndSendsPart : List ℕ → ℕ → View → View → List ℕ → Option (List ℕ) → Option (List ℕ) → Type 0
 LoadsAndSendsPart name count old new input before now = OfSeries count old name (λ total book series.
-    (readings : ℕ) × HoldsPages count total (IsLoaded total name book series input readings) new × SendsPartOf (loaded_text readings) before now)
+    (readings : ℕ) × HoldsPages count total (IsLoaded total name book series input readings) new
+    × SendsPartOf (loaded_text readings) before now)
 
 -- the disk holds the book after the sets of some first runs of the input
 pub record HoldsSome (count total : ℕ) (name : List ℕ) (book : List Series) (series : Series) (input : List ℕ) (disk : View) : Type 0 where
@@ -73,15 +75,18 @@ LoadsSome name count old new input = OfSeries count old name (λ total book seri
 
 -- the first bad line is the one at this offset, and the sets of the runs before it were done
 abbrev pub LoadsToBad : List ℕ → ℕ → View → View → List ℕ → ℕ → Type 0
-LoadsToBad name count old new input place = OfSeries count old name (λ total book series. HoldsPages count total (IsAtBad total name book series input place) new)
+LoadsToBad name count old new input place = OfSeries count old name
+    (λ total book series. HoldsPages count total (IsAtBad total name book series input place) new)
 
 -- the sets of the runs that ended within the whole lines taken were done, and these bytes are left
 abbrev pub LoadsTaken : List ℕ → ℕ → View → View → List ℕ → List ℕ → Type 0
-LoadsTaken name count old new input bytes = OfSeries count old name (λ total book series. HoldsPages count total (IsTaken total name book series input bytes) new)
+LoadsTaken name count old new input bytes = OfSeries count old name
+    (λ total book series. HoldsPages count total (IsTaken total name book series input bytes) new)
 
 -- those of the runs that ended within the whole lines among the first 2^32 bytes, and there is a byte more
 abbrev pub LoadsWithin : List ℕ → ℕ → View → View → List ℕ → Type 0
-LoadsWithin name count old new input = OfSeries count old name (λ total book series. HoldsPages count total (IsPast total name book series input) new)
+LoadsWithin name count old new input = OfSeries count old name
+    (λ total book series. HoldsPages count total (IsPast total name book series input) new)
 
 -- The sets of some first runs of the input were done, or tried: each reads 96 blocks at most, and is one commit at most, of four
 -- syncs and 131 writes.
@@ -97,7 +102,8 @@ LoadsFew name count old new input = OfSeries count old name (λ total book serie
 -- and the refusal's number.
 abbrev pub RefusesSet : List ℕ → ℕ → View → View → List ℕ → ℕ → Type 0
 RefusesSet name count old new input place = OfSeries count old name (λ total book series.
-    (at : ℕ) × (refusal : Refusal) × (place ≡ refused_at at (number_of refusal)) × HoldsPages count total (IsAtRefusal total name book series input at refusal) new)
+    (at : ℕ) × (refusal : Refusal) × (place ≡ refused_at at (number_of refusal))
+    × HoldsPages count total (IsAtRefusal total name book series input at refusal) new)
 
 -- the same: the run begins at this offset, and its set is refused with this number
 abbrev pub RefusesRun : List ℕ → ℕ → View → View → List ℕ → ℕ → ℕ → Type 0
@@ -105,7 +111,8 @@ RefusesRun name count old new input at number = OfSeries count old name (λ tota
     OfRefusal number (λ refusal. HoldsPages count total (IsAtRefusal total name book series input at refusal) new))
 
 -- The image recovers to the book after the sets of some first runs; once a byte of the answer was sent, after those of all.
-pub record IsAheadLoad (count total : ℕ) (name : List ℕ) (book : List Series) (series : Series) (input : List ℕ) (from : ℕ) (image : Image) (sent : ℕ) : Type 0 where
+pub record IsAheadLoad (count total : ℕ) (name : List ℕ) (book : List Series) (series : Series) (input : List ℕ) (from : ℕ) (image : Image)
+    (sent : ℕ) : Type 0 where
   pub readable : IsReadable count image
   pub within : total ≤ count
   pub old : KeepsOldStore count image
@@ -114,7 +121,8 @@ pub record IsAheadLoad (count total : ℕ) (name : List ℕ) (book : List Series
 
 -- at each moment from old to new a crash leaves such an image
 abbrev pub LeavesLoads : List ℕ → ℕ → List ℕ → View → View → Type 0
-LeavesLoads name count input old new = OfSeries count old name (λ total book series. Since old new (IsAheadLoad count total name book series input (sent_now old)))
+LeavesLoads name count input old new = OfSeries count old name
+    (λ total book series. Since old new (IsAheadLoad count total name book series input (sent_now old)))
 
 -- where the book has no series of the name, a crash leaves it at each moment
 abbrev pub LeavesUnnamed : List ℕ → ℕ → View → View → Type 0
@@ -153,13 +161,15 @@ IsLoadEnd Done name old new t =
     WasRead t.left t.left_now × IfSome t.left (λ input. LoadsAll name (page_count old.size) old new input t.sent t.sent_now)
 IsLoadEnd NoMemory name old new t = IfSome t.left (λ input. LoadsSome name (page_count old.size) old new input) × (t.sent_now ≡ t.sent)
 IsLoadEnd ReadFault name old new t =
-    HasRisen t.reads t.reads_now × IfSome t.left (λ input. IfSome t.left_now (LoadsTaken name (page_count old.size) old new input)) × (t.sent_now ≡ t.sent)
+    HasRisen t.reads t.reads_now × IfSome t.left (λ input. IfSome t.left_now (LoadsTaken name (page_count old.size) old new input))
+    × (t.sent_now ≡ t.sent)
 IsLoadEnd SendFault name old new t =
     HasRisen t.sends t.sends_now × IfSome t.left (λ input. LoadsAndSendsPart name (page_count old.size) old new input t.sent t.sent_now)
 IsLoadEnd DiskFault name old new t = HasRisen old.faults new.faults × (t.sent_now ≡ t.sent)
 IsLoadEnd (DamagedPage page) name old new t =
     IsDamagedLater IsBadForEdit (page_count old.size) new (block_of page) × Never (page_count old.size) old × (t.sent_now ≡ t.sent)
-IsLoadEnd (BadInput at) name old new t = IfSome t.left (λ input. LoadsToBad name (page_count old.size) old new input at) × (t.sent_now ≡ t.sent)
+IsLoadEnd (BadInput at) name old new t = IfSome t.left (λ input. LoadsToBad name (page_count old.size) old new input at)
+    × (t.sent_now ≡ t.sent)
 IsLoadEnd InputTooLong name old new t =
     IsLong t.left × IfSome t.left (λ input. LoadsWithin name (page_count old.size) old new input) × (t.sent_now ≡ t.sent)
 IsLoadEnd UnknownSeries name old new t =

@@ -19,11 +19,13 @@ use Rattle.store_commands.specs.Books.{SendsPartOf}
 
 -- page 0 of the pages for which the disk stands, in version 2, keeps its layout, and by its numbers they hold this series
 abbrev pub HasSeries : ℕ → View → List ℕ → Series → Type 0
-HasSeries count disk name series = SaysNumbers count (book_pages count disk.image) (λ s. HoldsSeries (book_pages count disk.image) s name series)
+HasSeries count disk name series = SaysNumbers count (book_pages count disk.image)
+    (λ s. HoldsSeries (book_pages count disk.image) s name series)
 
 -- the same where the pages of its tree fit their places: others may be damaged
 abbrev pub HasWhereFit : ℕ → View → List ℕ → Series → Type 0
-HasWhereFit count disk name series = SaysNumbers count (book_pages count disk.image) (λ s. HoldsWhereFit (book_pages count disk.image) s name series)
+HasWhereFit count disk name series = SaysNumbers count (book_pages count disk.image)
+    (λ s. HoldsWhereFit (book_pages count disk.image) s name series)
 
 -- this is so of each series that they hold under this name, where reads give what a crash may leave
 abbrev pub OfHeldSeries : ℕ → View → List ℕ → (Series → Type 0) → Type 0
@@ -46,7 +48,8 @@ pub record SendsHeld (series : Series) (window : Option Window) (before now : Op
 
 -- a record of this name names a tree of which this page is unfit for its place, and the series' export before the slots of the
 -- page's range was sent, all of it and no more
-pub record SendsBefore (image : Image) (s : Superblock) (name : List ℕ) (page : ℕ) (series : Series) (window : Option Window) (before now : Option (List ℕ)) : Type 0 where
+pub record SendsBefore (image : Image) (s : Superblock) (name : List ℕ) (page : ℕ) (series : Series) (window : Option Window)
+    (before now : Option (List ℕ)) : Type 0 where
   pub id : ℕ
   pub there : id < s.series
   pub named : (entry image id).name ≡ name
@@ -54,12 +57,14 @@ pub record SendsBefore (image : Image) (s : Superblock) (name : List ℕ) (page 
 
 -- so it is by the numbers of page 0 where the export ended at a damaged page
 abbrev pub IsCutEnd : End → ℕ → Image → List ℕ → Series → Option Window → Option (List ℕ) → Option (List ℕ) → Type 0
-IsCutEnd (DamagedPage page) count image name series window before now = SaysNumbers count image (λ s. SendsBefore image s name page series window before now)
+IsCutEnd (DamagedPage page) count image name series window before now = SaysNumbers count image
+    (λ s. SendsBefore image s name page series window before now)
 IsCutEnd end count image name series window before now = ⊤
 
 -- What an export does over a store of which something is damaged. Of a series that the pages hold where those of its tree fit,
 -- whatever else they are, so much is sent; and of one whose whole tree stands no page is called damaged.
-pub record Salvages (name : List ℕ) (window : Option Window) (count : ℕ) (disk : View) (before now : Option (List ℕ)) (end : End) : Type 0 where
+pub record Salvages (name : List ℕ) (window : Option Window) (count : ℕ) (disk : View) (before now : Option (List ℕ))
+    (end : End) : Type 0 where
   pub sends : OfFitSeries count disk name (λ series. SendsHeld series window before now end)
   pub cut : OfFitSeries count disk name (λ series. IsCutEnd end count (book_pages count disk.image) name series window before now)
   pub sound : OfHeldSeries count disk name (λ series. IsSalvageEnd end)
@@ -71,7 +76,8 @@ ReadsHeld name window count old new = OfFitSeries count old name (λ series. new
 
 -- a series that a disk has it has where pages fit
 abbrev pub HeldSeriesAreFit : View → Type 0
-HeldSeriesAreFit disk = (count : ℕ) (name : List ℕ) (series : Series) → HasSeries count disk name series → HasWhereFit count disk name series
+HeldSeriesAreFit disk = (count : ℕ) (name : List ℕ) (series : Series) → HasSeries count disk name series
+    → HasWhereFit count disk name series
 
 -- a disk that holds a book has each of its series
 abbrev pub BooksHaveTheirSeries : View → Type 0

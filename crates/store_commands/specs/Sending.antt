@@ -22,4 +22,5 @@ pub record SendsText (text : List ℕ) (old new : View) (before now : Option (Li
 
 -- so was each text that was made, where it was
 abbrev pub SendsMade : {E Z : Type 0} → Result (Vec ℕ Z) E → View → View → Option (List ℕ) → Option (List ℕ) → ℕ → ℕ → End → Type 0
-SendsMade made old new before now sends sends_now end = (text : List ℕ) → IfOk made (λ bytes. bytes.items ≡ text) → SendsText text old new before now sends sends_now end
+SendsMade made old new before now sends sends_now end = (text : List ℕ) → IfOk made (λ bytes. bytes.items ≡ text)
+    → SendsText text old new before now sends sends_now end

@@ -22,7 +22,8 @@ use std::alloc::{AllocError, Global};
 /// Reads every page of the store of the world's disk, and sends three lines: `series N`, `values N` and
 /// `pages USED of TOTAL`.
 pub fn check_store<W: World>(alloc: Global, world: W) -> (End, W)
-    ensures ends { CheckEnds (W.view world) (W.view result.1) (W.sent world) (W.sent result.1) (W.send_faults world) (W.send_faults result.1) result.0 }
+    ensures ends { CheckEnds (W.view world) (W.view result.1) (W.sent world) (W.sent result.1) (W.send_faults world)
+        (W.send_faults result.1) result.0 }
     ensures away { TurnsAway (W.view world) (traffic W.left W.sent W.read_faults W.send_faults world result.1) (status_of result.0) }
     ensures untaken { W.left result.1 ≡ W.left world }
     ensures faults { CountsFault (end_fault result.0) (W.view world) (W.view result.1) }
@@ -36,7 +37,8 @@ pub fn check_store<W: World>(alloc: Global, world: W) -> (End, W)
 /// The same over a store that is open.
 fn check_opened<W: World>(alloc: Global, mut store: Store<GatePages<W>>) -> (End, W)
     requires { AreSound (shown.pages store) }
-    ensures checks { let at = shown.pages store in ChecksOn (count at) (W.view (disk at)) (W.view result.1) (traffic W.left W.sent W.read_faults W.send_faults (disk at) result.1) result.0 }
+    ensures checks { let at = shown.pages store in ChecksOn (count at) (W.view (disk at)) (W.view result.1)
+        (traffic W.left W.sent W.read_faults W.send_faults (disk at) result.1) result.0 }
     ensures untaken { W.left result.1 ≡ W.left (disk (shown.pages store)) }
     ensures faults { CountsFault (end_fault result.0) (W.view (disk (shown.pages store))) (W.view result.1) }
 {

@@ -28,7 +28,8 @@ pub fn export_values<W: World>(
     window: Option<Window>,
     world: W,
 ) -> (End, W)
-    ensures ends { ExportEnds name.now window (W.view world) (W.view result.1) (W.sent world) (W.sent result.1) (W.send_faults world) (W.send_faults result.1) result.0 }
+    ensures ends { ExportEnds name.now window (W.view world) (W.view result.1) (W.sent world) (W.sent result.1) (W.send_faults world)
+        (W.send_faults result.1) result.0 }
     ensures away { TurnsAway (W.view world) (traffic W.left W.sent W.read_faults W.send_faults world result.1) (status_of result.0) }
     ensures untaken { W.left result.1 ≡ W.left world }
     ensures faults { CountsFault (end_fault result.0) (W.view world) (W.view result.1) }
@@ -47,7 +48,8 @@ fn export_opened<W: World>(
     mut store: Store<GatePages<W>>,
 ) -> (End, W)
     requires { AreSound (shown.pages store) }
-    ensures exports { let pages = shown.pages store in ExportsOn name.now window W.view pages result.1 (traffic W.left W.sent W.read_faults W.send_faults (disk pages) result.1) result.0 }
+    ensures exports { let pages = shown.pages store in
+        ExportsOn name.now window W.view pages result.1 (traffic W.left W.sent W.read_faults W.send_faults (disk pages) result.1) result.0 }
     ensures untaken { W.left result.1 ≡ W.left (disk (shown.pages store)) }
     ensures faults { CountsFault (end_fault result.0) (W.view (disk (shown.pages store))) (W.view result.1) }
 {

@@ -22,7 +22,8 @@ use std::alloc::{AllocError, Global};
 /// Sends a line for each series in the store of the world's disk, in the order of their creation:
 /// `NAME START STEP SCALE SLOTS`.
 pub fn list_series<W: World>(alloc: Global, world: W) -> (End, W)
-    ensures ends { ListEnds (W.view world) (W.view result.1) (W.sent world) (W.sent result.1) (W.send_faults world) (W.send_faults result.1) result.0 }
+    ensures ends { ListEnds (W.view world) (W.view result.1) (W.sent world) (W.sent result.1) (W.send_faults world)
+        (W.send_faults result.1) result.0 }
     ensures away { TurnsAway (W.view world) (traffic W.left W.sent W.read_faults W.send_faults world result.1) (status_of result.0) }
     ensures untaken { W.left result.1 ≡ W.left world }
     ensures faults { CountsFault (end_fault result.0) (W.view world) (W.view result.1) }

@@ -26,7 +26,8 @@ use std::alloc::{AllocError, Global};
 /// Stores the readings of the input, CSV lines, in the series of this name in the store of the world's disk,
 /// and sends how many there were: `loaded N` and a line feed.
 pub fn load_series<W: World>(alloc: Global, name: &Name, world: W) -> (End, W)
-    ensures ends { LoadEnds name.now (W.view world) (W.view result.1) (traffic W.left W.sent W.read_faults W.send_faults world result.1) result.0 }
+    ensures ends { LoadEnds name.now (W.view world) (W.view result.1)
+        (traffic W.left W.sent W.read_faults W.send_faults world result.1) result.0 }
     ensures holds { result.0 ≢ End.DiskFault → HoldsAgain (page_count (W.view world).size) (W.view world) (W.view result.1) }
     ensures away { TurnsAway (W.view world) (traffic W.left W.sent W.read_faults W.send_faults world result.1) (status_of result.0) }
     ensures faults { CountsFault (end_fault result.0) (W.view world) (W.view result.1) }
@@ -50,7 +51,8 @@ fn load_store<W: World>(
     mut store: Store<GatePages<W>>,
 ) -> (Result<u64, End>, W)
     requires { AreSound (shown.pages store) }
-    ensures stores { let pages = shown.pages store in StoresOn name.now W.view pages result.1 (traffic W.left W.sent W.read_faults W.send_faults (disk pages) result.1) result.0 }
+    ensures stores { let pages = shown.pages store in
+        StoresOn name.now W.view pages result.1 (traffic W.left W.sent W.read_faults W.send_faults (disk pages) result.1) result.0 }
     ensures costs { CostsOn name.now W.view W.left (shown.pages store) result.1 }
     ensures faults { CountsFault (fault_in end_fault result.0) (W.view (disk (shown.pages store))) (W.view result.1) }
 {

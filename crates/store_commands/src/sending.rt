@@ -9,7 +9,8 @@ use run_ends::End;
 
 /// Sends a text, where there was memory to make it, and says how that ended.
 pub fn send_text<W: World, E: Drop>(made: Result<Vec<u8>, E>, mut world: W) -> (End, W)
-    ensures sends { SendsMade made (W.view world) (W.view result.1) (W.sent world) (W.sent result.1) (W.send_faults world) (W.send_faults result.1) result.0 }
+    ensures sends { SendsMade made (W.view world) (W.view result.1) (W.sent world) (W.sent result.1) (W.send_faults world)
+        (W.send_faults result.1) result.0 }
     ensures left { W.left result.1 ≡ W.left world }
     ensures faults { CountsFault (end_fault result.0) (W.view world) (W.view result.1) }
 {

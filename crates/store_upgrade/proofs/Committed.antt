@@ -1,5 +1,6 @@
 -- What an upgrade leaves.
-use Rattle.std.proofs.Common.{◌≡◌, ℕ, ◌≤◌, Bool, true, false, List, length, Some, None, Option, is_some, unwrap_or, refl, sym, ap, subst, arith, inl, inr, ◌∙◌}
+use Rattle.std.proofs.Common.{◌≡◌, ℕ, ◌≤◌, Bool, true, false, List, length, Some, None, Option, is_some, unwrap_or, refl, sym, ap, subst}
+use Rattle.std.proofs.Common.{arith, inl, inr, ◌∙◌}
 use Rattle.std.proofs.lemmas.Bool.{cases_Bool, cases_lt}
 use Rattle.std.proofs.Math.Path.{fun_ext}
 use Rattle.block_disk.specs.Counts.{HasRisen}
@@ -12,7 +13,8 @@ use Rattle.store_upgrade.specs.declared.errors.UpgradeError.{UpgradeError}
 use Rattle.store_upgrade.specs.declared.errors.UpgradeError.TheVariants.{Damaged, DiskFault, NoMemory}
 use Rattle.store_upgrade.specs.OldStores.{HasOldMagic, has_old_magic, KeepsOldRules, IsOldStore}
 use Rattle.store_upgrade.specs.Upgraded.{upgraded, current}
-use Rattle.store_upgrade.specs.Upgrading.{Looks, Upgrades, Prevents, IsPlace, Stops, StopsFirst, HasOldCatalog, HasNewPages, BeforeOrUpgraded}
+use Rattle.store_upgrade.specs.Upgrading.{Looks, Upgrades, Prevents, IsPlace, Stops, StopsFirst, HasOldCatalog, HasNewPages}
+use Rattle.store_upgrade.specs.Upgrading.{BeforeOrUpgraded}
 use Rattle.store_upgrade.proofs.Looking.{looks_one, looks_more, looks_then}
 use Rattle.store_upgrade.proofs.Magics.{old_by, old_is, current_upgraded, upgraded_behind}
 
@@ -36,18 +38,22 @@ none_at batch p high below = none_of (page_in batch p) (elim (cases_Bool (is_som
 ])
 
 -- page 0 as read has the old magic, or lacks it
-pub read_old : (told : Type 0) (page : List ℕ) (image : Image) (old : Bool) → (told → page ≡ image 0) → old ≡ has_old_magic page → old ≡ true → told → HasOldMagic (image 0)
+pub read_old : (told : Type 0) (page : List ℕ) (image : Image) (old : Bool) → (told → page ≡ image 0) → old ≡ has_old_magic page
+    → old ≡ true → told → HasOldMagic (image 0)
 read_old told page image old is test so t = subst HasOldMagic (is t) (old_by page (sym test ∙ so))
 
-pub read_new : (told : Type 0) (page : List ℕ) (image : Image) (old : Bool) → (told → page ≡ image 0) → old ≡ has_old_magic page → old ≡ false → told → HasOldMagic (image 0) → ⊥
+pub read_new : (told : Type 0) (page : List ℕ) (image : Image) (old : Bool) → (told → page ≡ image 0) → old ≡ has_old_magic page
+    → old ≡ false → told → HasOldMagic (image 0) → ⊥
 read_new told page image old is test so t has =
     let here : has_old_magic page ≡ true = old_is page (subst HasOldMagic (sym (is t)) has) in
     apart (sym here ∙ sym test ∙ so)
 
 -- pages that were only read
-pub upgrades_looked : (told told' : Type 0) (old new : View) → Only old.image (Now old) → Looks 17 told told' old new → Upgrades told told' old new
+pub upgrades_looked : (told told' : Type 0) (old new : View) → Only old.image (Now old) → Looks 17 told told' old new
+    → Upgrades told told' old new
 upgrades_looked told told' old new only looks = record {
-  time = passes_weaker old new (Now old) (λ pages. told → BeforeOrUpgraded old.image pages) (Quiet old) (Quiet old) (λ pages left t. inl (only pages left)) (λ count quiet. quiet) looks.time;
+  time = passes_weaker old new (Now old) (λ pages. told
+      → BeforeOrUpgraded old.image pages) (Quiet old) (Quiet old) (λ pages left t. inl (only pages left)) (λ count quiet. quiet) looks.time;
   told = looks.told;
   was_told = looks.was_told;
   size = looks.size;
@@ -62,7 +68,8 @@ pub looks_17 : (told told' : Type 0) (old new : View) → Reads told told' old n
 looks_17 told told' old new reads = looks_more 1 17 told told' old new (omega arith) (looks_one told told' old new reads)
 
 -- page 0 was read, then the catalog, and then the batch was committed
-module _ (told told' told'' : Type 0) (old mid near : View) (batch : List Entry) (magic : told → HasOldMagic (old.image 0)) (reads : Reads told told' old mid) (looks : Looks 16 told' told'' mid near) where
+module _ (told told' told'' : Type 0) (old mid near : View) (batch : List Entry) (magic : told
+    → HasOldMagic (old.image 0)) (reads : Reads told told' old mid) (looks : Looks 16 told' told'' mid near) where
   pub looked : Looks 17 told told'' old near
   looked = looks_then 1 16 17 told told' told'' old mid near (omega arith) (looks_one told told' old mid reads) looks
 
@@ -75,19 +82,24 @@ module _ (told told' told'' : Type 0) (old mid near : View) (batch : List Entry)
   -- the batch puts the pages that these become
   pub put_is : AllBelow 17 batch → (told' → HasNewPages 17 batch mid.image) → told → put_all batch near.image ≡ upgraded old.image
   put_is below pages t = fun_ext (λ p. elim (cases_lt p 17) [
-    | inl low ↦ ap (λ (o : Option (List ℕ)). unwrap_or o (near.image p)) (pages (reads.told t) p low) ∙ ap (λ (i : Image). upgraded i p) (reads.image t)
+    | inl low ↦ ap (λ (o : Option (List ℕ)). unwrap_or o (near.image p)) (pages (reads.told t) p low)
+        ∙ ap (λ (i : Image). upgraded i p) (reads.image t)
     | inr high ↦
         ap (λ (o : Option (List ℕ)). unwrap_or o (near.image p)) (none_at batch p high below)
         ∙ ap (λ (i : Image). i p) (looked.image t)
         ∙ sym (upgraded_behind old.image p high)
   ])
 
-  pub upgrades_committed : (told''' : Type 0) (new : View) → Only old.image (Now old) → length batch ≡ 17 → AllBelow 17 batch → (told' → HasOldCatalog 17 mid.image) → (told' → HasNewPages 17 batch mid.image)
+  pub upgrades_committed : (told''' : Type 0) (new : View) → Only old.image (Now old) → length batch ≡ 17 → AllBelow 17 batch
+      → (told' → HasOldCatalog 17 mid.image) → (told' → HasNewPages 17 batch mid.image)
       → Commits batch told'' told''' near new → Upgrades told told''' old new
   upgrades_committed told''' new only few below kept pages commits = record {
     time = time_then old near new (λ image. told → BeforeOrUpgraded old.image image)
-        (passes_weaker old near (Now old) (λ image. told → BeforeOrUpgraded old.image image) (Quiet old) (Quiet old) (λ image left t. inl (only image left)) (λ count quiet. quiet) looked.time)
-        (passes_weaker near new (BeforeOrAfter batch near.image) (λ image. told → BeforeOrUpgraded old.image image) (Quiet near) (Quiet near)
+        (passes_weaker old near (Now old) (λ image. told
+        → BeforeOrUpgraded old.image image) (Quiet old) (Quiet old) (λ image left t. inl (only image left))
+        (λ count quiet. quiet) looked.time)
+        (passes_weaker near new (BeforeOrAfter batch near.image) (λ image. told
+        → BeforeOrUpgraded old.image image) (Quiet near) (Quiet near)
         (λ image which t. elim which [
           | inl before ↦ inl (before ∙ looked.image t)
           | inr after ↦ inr (old_store kept t, after ∙ put_is below pages t)
@@ -100,10 +112,14 @@ module _ (told told' told'' : Type 0) (old mid near : View) (batch : List Entry)
     faults = omega (arith, commits.faults, looked.faults);
     reads = record { low = omega (arith, commits.reads, looked.reads.low); high = omega (arith, commits.reads, looked.reads.high) };
     syncs = record { low = omega (arith, commits.syncs.low, looked.syncs); high = omega (arith, commits.syncs.high, looked.syncs) };
-    writes = record { low = omega (arith, commits.writes.low, looked.writes); high = omega (arith, commits.writes.high, looked.writes, few) };
+    writes = record {
+      low = omega (arith, commits.writes.low, looked.writes);
+      high = omega (arith, commits.writes.high, looked.writes, few);
+    };
   }
 
-  pub committed_current : (image : Image) → AllBelow 17 batch → (told' → HasNewPages 17 batch mid.image) → (told'' → image ≡ put_all batch near.image) → told → image ≡ current old.image
+  pub committed_current : (image : Image) → AllBelow 17 batch → (told' → HasNewPages 17 batch mid.image)
+      → (told'' → image ≡ put_all batch near.image) → told → image ≡ current old.image
   committed_current image below pages done t = done (looked.told t) ∙ put_is below pages t ∙ sym (current_upgraded old.image (magic t))
 
   -- why the catalog wasn't read
@@ -111,7 +127,12 @@ module _ (told told' told'' : Type 0) (old mid near : View) (batch : List Entry)
   prevents same (Damaged page) is = λ t.
       let K : Image → Type 0 = λ i. KeepsOldRules (i page) in
       let so = is.1 (reads.told t) in
-      record { magic = magic t; place = is.0; before = catalog_old page t so.0; breaks = λ keeps. so.1 (subst K (sym (reads.image t)) keeps) }
+      record {
+        magic = magic t;
+        place = is.0;
+        before = catalog_old page t so.0;
+        breaks = λ keeps. so.1 (subst K (sym (reads.image t)) keeps);
+      }
   prevents same DiskFault is = risen_on old.faults mid.faults near.faults same is
   prevents same NoMemory is = tt
 

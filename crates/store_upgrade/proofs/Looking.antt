@@ -36,10 +36,12 @@ looks_one told told' old new reads = record {
   writes = reads.writes;
 }
 
-pub looks_then : (a b most : ℕ) (told told' told'' : Type 0) (old mid new : View) → a + b ≤ most → Looks a told told' old mid → Looks b told' told'' mid new → Looks most told told'' old new
+pub looks_then : (a b most : ℕ) (told told' told'' : Type 0) (old mid new : View) → a + b ≤ most → Looks a told told' old mid
+    → Looks b told' told'' mid new → Looks most told told'' old new
 looks_then a b most told told' told'' old mid new few first second = record {
   time = time_then old mid new (Now old) first.time
-      (passes_weaker mid new (Now mid) (Now old) (Quiet mid) (Quiet mid) (now_back old mid (Quiet old) first.time) (λ count quiet. quiet) second.time);
+      (passes_weaker mid new (Now mid) (Now old) (Quiet mid) (Quiet mid) (now_back old mid (Quiet old) first.time)
+      (λ count quiet. quiet) second.time);
   told = λ t. second.told (first.told t);
   was_told = λ t. first.was_told (second.was_told t);
   image = λ t. second.image (first.told t) ∙ first.image t;

@@ -1,5 +1,6 @@
 -- The magics of the two versions, and the pages that they tell of.
-use Rattle.std.proofs.Common.{◌≡◌, ℕ, ◌≤◌, ◌<◌, ◌⊎◌, Bool, true, false, cond, nat_lt, List, drop, get_or, refl, sym, ap, subst, arith, inl, inr, ◌∙◌}
+use Rattle.std.proofs.Common.{◌≡◌, ℕ, ◌≤◌, ◌<◌, ◌⊎◌, Bool, true, false, cond, nat_lt, List, drop, get_or, refl, sym, ap, subst, arith, inl}
+use Rattle.std.proofs.Common.{inr, ◌∙◌}
 use Rattle.std.proofs.lemmas.Bool.{cases_Bool, lt-ltb, le-ltb, ne_eqb}
 use Rattle.std.proofs.lemmas.Bool.Decides.{Decides-eqb}
 use Rattle.std.proofs.lemmas.Slice.Eq.{starts_is}
@@ -55,13 +56,15 @@ upgraded_first image = refl
 pub upgraded_catalog : (image : Image) (p : ℕ) → 1 ≤ p → p < 17 → upgraded image p ≡ upgraded_page (image p)
 unfolding upgraded
 upgraded_catalog image p low high =
-    ap (λ b. cond b (renewed (image 0)) (cond (nat_lt p 17) (upgraded_page (image p)) (image p))) (ne_eqb p 0 (λ none. omega (arith, none, low)))
+    ap (λ b. cond b (renewed (image 0)) (cond (nat_lt p 17) (upgraded_page (image p)) (image p)))
+    (ne_eqb p 0 (λ none. omega (arith, none, low)))
     ∙ ap (λ b. cond b (upgraded_page (image p)) (image p)) (lt-ltb p 17 high)
 
 pub upgraded_behind : (image : Image) (p : ℕ) → 17 ≤ p → upgraded image p ≡ image p
 unfolding upgraded
 upgraded_behind image p low =
-    ap (λ b. cond b (renewed (image 0)) (cond (nat_lt p 17) (upgraded_page (image p)) (image p))) (ne_eqb p 0 (λ none. omega (arith, none, low)))
+    ap (λ b. cond b (renewed (image 0)) (cond (nat_lt p 17) (upgraded_page (image p)) (image p)))
+    (ne_eqb p 0 (λ none. omega (arith, none, low)))
     ∙ ap (λ b. cond b (upgraded_page (image p)) (image p)) (le-ltb p 17 low)
 
 pub current_behind : (image : Image) (p : ℕ) → 17 ≤ p → current image p ≡ image p
@@ -75,7 +78,8 @@ current_behind image p low = elim (cases_Bool (has_old_magic (image 0))) [
 pub current_new : (image : Image) → HasOldMagic (current image 0) → ⊥
 current_new image old = elim (cases_Bool (has_old_magic (image 0))) [
   | inl is ↦
-      let here : current image 0 ≡ renewed (image 0) = ap (λ (i : Image). i 0) (current_upgraded image (old_by (image 0) is)) ∙ upgraded_first image in
+      let here : current image 0 ≡ renewed (image 0) = ap (λ (i : Image). i 0) (current_upgraded image (old_by (image 0) is))
+      ∙ upgraded_first image in
       new_not_old (renewed (image 0)) (renewed_new (image 0)) (subst HasOldMagic here old)
   | inr is ↦
       let not_old : HasOldMagic (image 0) → ⊥ = λ has. apart (has_old_magic (image 0)) (old_is (image 0) has) is in
@@ -100,7 +104,8 @@ pub either_magic : (image : Image) → HasMagic (current image 0) → HasMagic (
 either_magic image new = elim (cases_Bool (has_old_magic (image 0))) [
   | inl is ↦ inr (old_by (image 0) is)
   | inr is ↦
-      let here : current image 0 ≡ image 0 = ap (λ (i : Image). i 0) (current_same image (λ has. apart (has_old_magic (image 0)) (old_is (image 0) has) is)) in
+      let here : current image 0 ≡ image 0 = ap (λ (i : Image). i 0)
+      (current_same image (λ has. apart (has_old_magic (image 0)) (old_is (image 0) has) is)) in
       inl (subst HasMagic here new)
 ]
 

@@ -1,5 +1,6 @@
 -- The records of a page while their levels are set.
-use Rattle.std.proofs.Common.{◌≡◌, ◌≢◌, ℕ, zero, suc, ◌+◌, ◌*◌, ◌<◌, ◌≤◌, cond, eqb, List, take, set, length, get_or, refl, sym, ap, subst, arith, inl, inr, ◌∙◌}
+use Rattle.std.proofs.Common.{◌≡◌, ◌≢◌, ℕ, zero, suc, ◌+◌, ◌*◌, ◌<◌, ◌≤◌, cond, eqb, List, take, set, length, get_or, refl, sym, ap, subst}
+use Rattle.std.proofs.Common.{arith, inl, inr, ◌∙◌}
 use Rattle.std.proofs.lemmas.Bool.{cases_Bool, cases_lt, ne_eqb}
 use Rattle.std.proofs.lemmas.Bool.Decides.{eqb_tells}
 use Rattle.std.proofs.lemmas.List.{drop-set-lt, length-set, get_or-set_same, get_or-set_other}
@@ -44,7 +45,8 @@ pub levels_length : (page : List ℕ) (n : ℕ) → length (with_levels page n) 
 unfolding with_levels
 levels_length page zero = refl
 levels_length page (suc n) = elim (cases_Bool (eqb (used_at (record_bytes (with_levels page n) n)) 0)) [
-  | inl is ↦ ap (λ b. length (cond b (with_levels page n) (set (with_levels page n) (88 + 96 * n) (levels_of (with_levels page n) n)))) is ∙ levels_length page n
+  | inl is ↦ ap (λ b. length (cond b (with_levels page n) (set (with_levels page n) (88 + 96 * n) (levels_of (with_levels page n) n)))) is
+      ∙ levels_length page n
   | inr is ↦
       ap (λ b. length (cond b (with_levels page n) (set (with_levels page n) (88 + 96 * n) (levels_of (with_levels page n) n)))) is
       ∙ length-set (with_levels page n) (88 + 96 * n) (levels_of (with_levels page n) n)
@@ -52,7 +54,8 @@ levels_length page (suc n) = elim (cases_Bool (eqb (used_at (record_bytes (with_
 ]
 
 -- no other byte is set
-pub levels_rest : (page : List ℕ) (n k : ℕ) → ((i : ℕ) → i < n → k ≡ 88 + 96 * i → IsInUse (record_bytes page i) → ⊥) → get_or (with_levels page n) k 0 ≡ get_or page k 0
+pub levels_rest : (page : List ℕ) (n k : ℕ) → ((i : ℕ) → i < n → k ≡ 88 + 96 * i → IsInUse (record_bytes page i) → ⊥)
+    → get_or (with_levels page n) k 0 ≡ get_or page k 0
 unfolding with_levels
 levels_rest page zero k other = refl
 levels_rest page (suc n) k other =
@@ -67,7 +70,8 @@ levels_rest page (suc n) k other =
           ap (λ b. get_or (cond b mid (set mid (88 + 96 * n) x)) k 0) is.0 ∙ get_or-set_other mid (88 + 96 * n) k x 0 off ∙ before
     ]
 
-pub levels_set : (page : List ℕ) (n i : ℕ) → IsBlock page → n ≤ 32 → i < n → IsInUse (record_bytes page i) → get_or (with_levels page n) (88 + 96 * i) 0 ≡ levels_of page i
+pub levels_set : (page : List ℕ) (n i : ℕ) → IsBlock page → n ≤ 32 → i < n → IsInUse (record_bytes page i)
+    → get_or (with_levels page n) (88 + 96 * i) 0 ≡ levels_of page i
 unfolding with_levels
 levels_set page zero i whole few low used = absurd (omega (arith, low))
 levels_set page (suc n) i whole few low used =
@@ -80,7 +84,8 @@ levels_set page (suc n) i whole few low used =
           let before = levels_set page n i whole (omega (arith, few)) below used in
           elim (cases_Bool (eqb (used_at (record_bytes mid n)) 0)) [
             | inl is ↦ ap (λ b. get_or (cond b mid (set mid at x)) (88 + 96 * i) 0) is ∙ before
-            | inr is ↦ ap (λ b. get_or (cond b mid (set mid at x)) (88 + 96 * i) 0) is ∙ get_or-set_other mid at (88 + 96 * i) x 0 (λ e. omega (arith, e, below)) ∙ before
+            | inr is ↦ ap (λ b. get_or (cond b mid (set mid at x)) (88 + 96 * i) 0) is
+                ∙ get_or-set_other mid at (88 + 96 * i) x 0 (λ e. omega (arith, e, below)) ∙ before
           ]
       | inr above ↦
           let here : i ≡ n = omega (arith, low, above) in
@@ -98,8 +103,11 @@ levels_set page (suc n) i whole few low used =
 pub page_kind : (page : List ℕ) → IsBlock page → get_or (upgraded_page page) 0 0 ≡ 4
 page_kind page whole = get_or-set_same (with_levels page 32) 0 4 0 (omega (arith, levels_length page 32, whole))
 
-pub page_levels_set : (page : List ℕ) (i : ℕ) → IsBlock page → i < 32 → IsInUse (record_bytes page i) → get_or (upgraded_page page) (88 + 96 * i) 0 ≡ levels_of page i
-page_levels_set page i whole low used = get_or-set_other (with_levels page 32) 0 (88 + 96 * i) 4 0 (λ e. omega (arith, e)) ∙ levels_set page 32 i whole (omega arith) low used
+pub page_levels_set : (page : List ℕ) (i : ℕ) → IsBlock page → i < 32 → IsInUse (record_bytes page i)
+    → get_or (upgraded_page page) (88 + 96 * i) 0 ≡ levels_of page i
+page_levels_set page i whole low used = get_or-set_other (with_levels page 32) 0 (88 + 96 * i) 4 0 (λ e. omega (arith, e))
+    ∙ levels_set page 32 i whole (omega arith) low used
 
-pub page_rest : (page : List ℕ) (k : ℕ) → k ≢ 0 → ((i : ℕ) → i < 32 → k ≡ 88 + 96 * i → IsInUse (record_bytes page i) → ⊥) → get_or (upgraded_page page) k 0 ≡ get_or page k 0
+pub page_rest : (page : List ℕ) (k : ℕ) → k ≢ 0 → ((i : ℕ) → i < 32 → k ≡ 88 + 96 * i → IsInUse (record_bytes page i) → ⊥)
+    → get_or (upgraded_page page) k 0 ≡ get_or page k 0
 page_rest page k off other = get_or-set_other (with_levels page 32) 0 k 4 0 off ∙ levels_rest page 32 k other

@@ -1,5 +1,6 @@
 -- The pages of version 2, gathered one after another.
-use Rattle.std.proofs.Common.{◌≡◌, ℕ, ◌+◌, ◌-◌, ◌≤◌, ◌<◌, true, false, cond, eqb, List, [], length, Some, is_some, IsSome, Option, sym, ap, subst, arith, inl, inr, ◌∙◌}
+use Rattle.std.proofs.Common.{◌≡◌, ℕ, ◌+◌, ◌-◌, ◌≤◌, ◌<◌, true, false, cond, eqb, List, [], length, Some, is_some, IsSome, Option, sym, ap}
+use Rattle.std.proofs.Common.{subst, arith, inl, inr, ◌∙◌}
 use Rattle.std.proofs.lemmas.Bool.{cases_Bool, cases_lt}
 use Rattle.std.proofs.lemmas.Bool.Decides.{eqb_tells}
 use Rattle.block_disk.specs.View.{Image, View}
@@ -52,7 +53,8 @@ put_below n page old new below put p is = elim (eqb_tells p n) [
       omega (arith, below p (subst S here is))
 ]
 
-put_pages : (n : ℕ) (page : List ℕ) (old new : List Entry) (image : Image) → HasNewPages n old image → IsPut n page old new → page ≡ upgraded image n → HasNewPages (n + 1) new image
+put_pages : (n : ℕ) (page : List ℕ) (old new : List Entry) (image : Image) → HasNewPages n old image → IsPut n page old new
+    → page ≡ upgraded image n → HasNewPages (n + 1) new image
 put_pages n page old new image pages put is p low = elim (eqb_tells p n) [
   | inl same ↦
       put p
@@ -63,22 +65,27 @@ put_pages n page old new image pages put is p low = elim (eqb_tells p n) [
 ]
 
 -- page 0 is put
-pub gathered_first : (told first : Type 0) (old under under' : View) (page before : List ℕ) (batch batch' : List Entry) → GoesOn under under' → page ≡ renewed before → (first → before ≡ old.image 0)
+pub gathered_first : (told first : Type 0) (old under under' : View) (page before : List ℕ) (batch batch' : List Entry)
+    → GoesOn under under' → page ≡ renewed before → (first → before ≡ old.image 0)
     → batch ≡ [] → IsPut 0 page batch batch' → IsLonger 0 batch batch' → AreGathered told told first old old under under' batch' 1
 gathered_first told first old under under' page before batch batch' goes is first_is empty put longer =
     let none : AllBelow 0 batch = λ p some. absurd (none_in batch p empty some) in
     record {
-      len = longer ∙ ap (λ b. cond b (length batch) (length batch + 1)) (missing 0 batch none) ∙ ap (λ (b : List Entry). length b + 1) empty;
+      len = longer ∙ ap (λ b. cond b (length batch) (length batch + 1)) (missing 0 batch none)
+          ∙ ap (λ (b : List Entry). length b + 1) empty;
       below = put_below 0 page batch batch' none put;
       looks = looks_none told old;
       goes_on = goes;
       kept = λ t p low high. absurd (omega (arith, low, high));
-      pages = λ t f. put_pages 0 page batch batch' old.image (λ p low. absurd (omega (arith, low))) put (is ∙ ap (λ (l : List ℕ). renewed l) (first_is f) ∙ sym (upgraded_first old.image));
+      pages = λ t f. put_pages 0 page batch batch' old.image (λ p low. absurd (omega (arith, low))) put (is
+          ∙ ap (λ (l : List ℕ). renewed l) (first_is f) ∙ sym (upgraded_first old.image));
     }
 
 -- one more page is put
-pub gathered_more : (told told' told'' first : Type 0) (old mid new under under' under'' : View) (page : List ℕ) (batch batch' : List Entry) (n : ℕ) → 1 ≤ n → n < 17
-    → AreGathered told told' first old mid under under' batch n → Reads told' told'' mid new → GoesOn under' under'' → (told' → KeepsOldRules (mid.image n)) → (told' → page ≡ upgraded_page (mid.image n))
+pub gathered_more : (told told' told'' first : Type 0) (old mid new under under' under'' : View) (page : List ℕ) (batch batch' : List Entry)
+    (n : ℕ) → 1 ≤ n → n < 17
+    → AreGathered told told' first old mid under under' batch n → Reads told' told'' mid new → GoesOn under' under''
+    → (told' → KeepsOldRules (mid.image n)) → (told' → page ≡ upgraded_page (mid.image n))
     → IsPut n page batch batch' → IsLonger n batch batch' → AreGathered told told'' first old new under under'' batch' (n + 1)
 gathered_more told told' told'' first old mid new under under' under'' page batch batch' n low high so_far reads goes kept is put longer =
     let same : told → mid.image n ≡ old.image n = λ t. ap (λ (i : Image). i n) (so_far.looks.image t) in
@@ -86,7 +93,8 @@ gathered_more told told' told'' first old mid new under under' under'' page batc
     record {
       len = longer ∙ ap (λ b. cond b (length batch) (length batch + 1)) (missing n batch so_far.below) ∙ ap (λ m. m + 1) so_far.len;
       below = put_below n page batch batch' so_far.below put;
-      looks = looks_then (n - 1) 1 (n + 1 - 1) told told' told'' old mid new (omega (arith, low)) so_far.looks (looks_one told' told'' mid new reads);
+      looks = looks_then (n - 1) 1 (n + 1 - 1) told told' told'' old mid new (omega (arith, low)) so_far.looks
+          (looks_one told' told'' mid new reads);
       goes_on = goes_then under under' under'' so_far.goes_on goes;
       kept = λ t p from to. elim (cases_lt p n) [
         | inl below ↦ so_far.kept t p from below

@@ -24,6 +24,8 @@ pub fn old_pages_become_current()
 /// A page of the catalog gets the kind of version 2, and each record in use the levels of its slots. All other bytes stay.
 pub fn records_get_their_levels()
     ensures kind { (page : List ℕ) → IsBlock page → slice_index (upgraded_page page) 0 ≡ 4 }
-    ensures levels { (page : List ℕ) (i : ℕ) → IsBlock page → i < 32 → IsInUse (record_bytes page i) → slice_index (upgraded_page page) (88 + 96 * i) ≡ levels_of page i }
-    ensures rest { (page : List ℕ) (k : ℕ) → k ≢ 0 → ((i : ℕ) → i < 32 → k ≡ 88 + 96 * i → IsInUse (record_bytes page i) → ⊥) → slice_index (upgraded_page page) k ≡ slice_index page k }
+    ensures levels { (page : List ℕ) (i : ℕ) → IsBlock page → i < 32 → IsInUse (record_bytes page i)
+        → slice_index (upgraded_page page) (88 + 96 * i) ≡ levels_of page i }
+    ensures rest { (page : List ℕ) (k : ℕ) → k ≢ 0 → ((i : ℕ) → i < 32 → k ≡ 88 + 96 * i → IsInUse (record_bytes page i) → ⊥)
+        → slice_index (upgraded_page page) k ≡ slice_index page k }
 {}

@@ -7,7 +7,8 @@ ghost use Rattle.gate_pages.specs.Entries.{entries};
 ghost use Rattle.gate_pages.specs.Pages.{Reads, GoesOn};
 ghost use Rattle.store_upgrade.specs.OldStores.{HasOldMagic, has_old_magic, KeepsOldRules, IsOldStore};
 ghost use Rattle.store_upgrade.specs.Upgraded.{upgraded_page, current};
-ghost use Rattle.store_upgrade.specs.Upgrading.{Prevents, IsPlace, IsOutside, Stops, Looks, Upgrades, BreaksAt, StopsFirst, HasOldCatalog, HasNewPages};
+ghost use Rattle.store_upgrade.specs.Upgrading.{Prevents, IsPlace, IsOutside, Stops, Looks, Upgrades, BreaksAt, StopsFirst, HasOldCatalog};
+ghost use Rattle.store_upgrade.specs.Upgrading.{HasNewPages};
 
 use crate::errors::UpgradeError;
 use crate::layout::FIRST;

@@ -1,5 +1,6 @@
 -- A series without slots is added behind the others.
-use Rattle.std.proofs.Common.{◌≡◌, ◌≢◌, ℕ, ℤ, zero, suc, ◌+◌, ◌<◌, ◌≤◌, List, [], ◌∷◌, ◌++◌, length, slice_get, Option, None, Some, refl, sym, ap, subst, ◌∙◌, arith, inl, inr}
+use Rattle.std.proofs.Common.{◌≡◌, ◌≢◌, ℕ, ℤ, zero, suc, ◌+◌, ◌<◌, ◌≤◌, List, [], ◌∷◌, ◌++◌, length, slice_get, Option, None, Some, refl}
+use Rattle.std.proofs.Common.{sym, ap, subst, ◌∙◌, arith, inl, inr}
 use Rattle.std.proofs.lemmas.Bool.{cases_lt}
 use Rattle.std.proofs.lemmas.Bool.Decides.{eqb_tells}
 use Rattle.std.proofs.lemmas.List.{append-nil, length_push}
@@ -67,14 +68,17 @@ no_slots image total tree slots root span =
     }
 
 -- the record of the new series
-new_kept : (image : Image) (total : ℕ) (series : Series) (e : Entry) → IsRecordOf series e → series.slots ≡ [] → e.slots ≡ 0 → e.root ≡ 0 → e.span ≡ None → IsKept image total series e
+new_kept : (image : Image) (total : ℕ) (series : Series) (e : Entry) → IsRecordOf series e → series.slots ≡ [] → e.slots ≡ 0 → e.root ≡ 0
+    → e.span ≡ None → IsKept image total series e
 new_kept image total series e is_of empty slots root span =
     let L : List (Option ℤ) → Type 0 = λ list. StandsFor image total (tree_of e) list in
     record { record_is = is_of; tree = subst L (sym empty) (no_slots image total (tree_of e) slots root span) }
 
 pub added_store : (before mid after : Image) (s : Superblock) (book : List Series) (series : Series) (e : Entry)
-    → IsStore before s book → length book < 512 → mid 0 ≡ superblock_page (with_series s (length book + 1)) → ((p : ℕ) → p ≢ 0 → mid p ≡ before p)
-    → IsRecordOf series e → series.slots ≡ [] → e.slots ≡ 0 → e.root ≡ 0 → e.span ≡ None → IsRecordSet mid after (length book) e → AddsRecord mid after (length book) s.fresh
+    → IsStore before s book → length book < 512 → mid 0 ≡ superblock_page (with_series s (length book + 1))
+    → ((p : ℕ) → p ≢ 0 → mid p ≡ before p)
+    → IsRecordOf series e → series.slots ≡ [] → e.slots ≡ 0 → e.root ≡ 0 → e.span ≡ None → IsRecordSet mid after (length book) e
+    → AddsRecord mid after (length book) s.fresh
     → IsBook (book ++ series ∷ []) → IsStore after (with_series s (length book + 1)) (book ++ series ∷ [])
 added_store before mid after s book series e was room spelled same is_of empty slots root span put adds book_is =
     let count : ℕ = length book in
@@ -82,21 +86,27 @@ added_store before mid after s book series e was room spelled same is_of empty s
     let whole : List Series = book ++ series ∷ [] in
     let long : length whole ≡ count + 1 = length_push book series in
     let mid_stands : Stands s.total mid s' (pages_of_trees before count) was.freed =
-    stands_series s.total before mid s (count + 1) (pages_of_trees before count) was.freed (omega (arith, room)) spelled (λ q some. same q (λ none. omega (arith, some, none))) was.stands in
+    stands_series s.total before mid s (count + 1) (pages_of_trees before count) was.freed (omega (arith, room)) spelled
+    (λ q some. same q (λ none. omega (arith, some, none))) was.stands in
     let few : (c : ℕ) → c < count → c < 512 = λ c low. omega (arith, low, room) in
     let behind : (p : ℕ) → 17 ≤ p → after p ≡ mid p = λ p from. put.others p (λ is. omega (arith, is, from, page_high count room)) in
     let stays : (p : ℕ) → 17 ≤ p → after p ≡ before p = λ p from. behind p from ∙ same p (λ none. omega (arith, none, from)) in
     let entry_same : (c : ℕ) → c < count → entry after c ≡ entry before c =
-    λ c low. entry_stays mid after count e c put (λ is. omega (arith, is, low)) ∙ ap (λ page. entry_at page (number_of c)) (same (page_of c) (λ none. omega (arith, none, page_low c))) in
-    let tree_page : (c p : ℕ) → c < count → 0 < times p (pages_of_tree before c) → after p ≡ before p = λ c p low in_it. stays p (tree_behind before s book c p was low in_it) in
+    λ c low. entry_stays mid after count e c put (λ is. omega (arith, is, low))
+    ∙ ap (λ page. entry_at page (number_of c)) (same (page_of c) (λ none. omega (arith, none, page_low c))) in
+    let tree_page : (c p : ℕ) → c < count → 0 < times p (pages_of_tree before c)
+    → after p ≡ before p = λ c p low in_it. stays p (tree_behind before s book c p was low in_it) in
     let trees : pages_of_trees after count ≡ pages_of_trees before count =
-    join_same (pages_of_tree after) (pages_of_tree before) count (λ c low. tree_stays before after c (entry_same c low) (λ p in_it. tree_page c p low in_it)) in
+    join_same (pages_of_tree after) (pages_of_tree before) count
+    (λ c low. tree_stays before after c (entry_same c low) (λ p in_it. tree_page c p low in_it)) in
     let new_tree : pages_of_tree after count ≡ [] =
     ap (λ (x : Entry). tree_pages after (page_levels x.slots) x.root) put.set ∙ no_pages after (page_levels e.slots) e.root root in
     let all_trees : pages_of_trees after (length whole) ≡ pages_of_trees before count =
-    ap (λ n. pages_of_trees after n) long ∙ trees_next after count ∙ ap (λ l. pages_of_trees after count ++ l) new_tree ∙ append-nil (pages_of_trees after count) ∙ trees in
+    ap (λ n. pages_of_trees after n) long ∙ trees_next after count ∙ ap (λ l. pages_of_trees after count ++ l) new_tree
+    ∙ append-nil (pages_of_trees after count) ∙ trees in
     let new_is : IsKept after s.total series (entry after count) =
-    (let E : Entry → Type 0 = λ x. IsKept after s.total series x in subst E (sym put.set) (new_kept after s.total series e is_of empty slots root span)) in
+    (let E : Entry → Type 0 = λ x. IsKept after s.total series x in
+    subst E (sym put.set) (new_kept after s.total series e is_of empty slots root span)) in
     record {
       is_book = book_is;
       small = was.small;
@@ -120,7 +130,8 @@ added_store before mid after s book series e was room spelled same is_of empty s
         | inl low ↦
             let E : Entry → Type 0 = λ x. IsKept after s.total other x in
             subst E (sym (entry_same c low))
-            (kept_frame before after s.total other (entry before c) (was.kept c other (sym (get_left book series c low) ∙ found)) (λ p in_it. tree_page c p low in_it))
+            (kept_frame before after s.total other (entry before c) (was.kept c other (sym (get_left book series c low) ∙ found))
+            (λ p in_it. tree_page c p low in_it))
         | inr high ↦
             let at : count ≡ c = omega (arith, high, slice_get_within whole c other found, long) in
             let P : ℕ → Series → Type 0 = λ i x. IsKept after s.total x (entry after i) in

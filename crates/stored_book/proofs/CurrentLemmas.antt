@@ -24,7 +24,8 @@ book_not_old image total book stands = new_not_old (image 0) (book_magic image t
 pub book_current : (image : Image) (total : ℕ) (book : List Series) → StandsForBook image total book → current image ≡ image
 book_current image total book stands = current_same image (book_not_old image total book stands)
 
-pub book_keeps : (count : ℕ) (image : Image) (total : ℕ) (book : List Series) → StandsForBook (pages_of count image) total book → KeepsOldStore count image
+pub book_keeps : (count : ℕ) (image : Image) (total : ℕ) (book : List Series) → StandsForBook (pages_of count image) total book
+    → KeepsOldStore count image
 book_keeps count image total book stands = λ old. absurd (book_not_old (pages_of count image) total book stands old)
 
 -- page 0 of a store has its magic, so the pages are current
@@ -36,7 +37,8 @@ pub book_once : (count : ℕ) (old new : Image) → pages_of count new ≡ book_
 book_once count old new same = ap (λ (pages : Image). current pages) same ∙ current_once (pages_of count old)
 
 -- an image whose pages stand for a book recovers to it
-pub recovers_new : (count : ℕ) (image : Image) (total : ℕ) (book : List Series) → IsReadable count image → total ≤ count → StandsForBook (pages_of count image) total book → RecoversTo count image total book
+pub recovers_new : (count : ℕ) (image : Image) (total : ℕ) (book : List Series) → IsReadable count image → total ≤ count
+    → StandsForBook (pages_of count image) total book → RecoversTo count image total book
 recovers_new count image total book readable within stands =
     let P : Image → Type 0 = λ pages. StandsForBook pages total book in
     record {

@@ -22,7 +22,11 @@ unfolding records_of
 no_records p = omega arith
 
 no_book : IsBook []
-no_book = record { few = omega arith; all_in_range = λ k d low. absurd (omega (arith, low)); distinct = λ i j d below low. absurd (omega (arith, low)) }
+no_book = record {
+  few = omega arith;
+  all_in_range = λ k d low. absurd (omega (arith, low));
+  distinct = λ i j d below low. absurd (omega (arith, low));
+}
 
 no_trees : (image : Image) → pages_of_trees image 0 ≡ []
 unfolding join_below
@@ -46,7 +50,8 @@ none_in_use p = elim (cases_lt p 17) [
   | inr high ↦ once_high 17 p high
 ]
 
-pub empty_stands : (count : ℕ) (image : Image) → 62 ≤ count → image 0 ≡ superblock_page (empty_of count) → Stands count image (empty_of count) [] []
+pub empty_stands : (count : ℕ) (image : Image) → 62 ≤ count → image 0 ≡ superblock_page (empty_of count)
+    → Stands count image (empty_of count) [] []
 empty_stands count image low spelled = record {
   spelled = spelled;
   rules = empty_rules count low;
@@ -72,7 +77,11 @@ empty_store count image low small empty =
     }
 
 pub empty_book : (count : ℕ) (image : Image) → 62 ≤ count → count < 2 ^ 32 → IsEmptyStore count image → StandsForBook image count []
-empty_book count image low small empty = record { superblock = empty_of count; total_is = refl; store = empty_store count image low small empty }
+empty_book count image low small empty = record {
+  superblock = empty_of count;
+  total_is = refl;
+  store = empty_store count image low small empty;
+}
 
 pub first_over : (count : ℕ) (image : Image) → IsEmptyStore count (empty_over count image)
 first_over count image = record {
@@ -85,4 +94,5 @@ pub first_book : (count : ℕ) (image : Image) → 62 ≤ count → count < 2 ^ 
 first_book count image low small = empty_book count (empty_over count image) low small (first_over count image)
 
 pub new_recovers : (count : ℕ) (image : Image) → 62 ≤ count → count < 2 ^ 32 → IsNewStore count image → RecoversTo count image count []
-new_recovers count image low small new = recovers_new count image count [] new.readable (omega arith) (empty_book count (pages_of count image) low small new.store)
+new_recovers count image low small new = recovers_new count image count [] new.readable (omega arith)
+    (empty_book count (pages_of count image) low small new.store)

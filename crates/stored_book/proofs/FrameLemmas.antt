@@ -60,7 +60,8 @@ kept_frame old new total series e kept same = record {
 }
 
 -- a tree has the same pages where its record and its pages stay
-pub tree_stays : (old new : Image) (id : ℕ) → entry new id ≡ entry old id → ((p : ℕ) → 0 < times p (pages_of_tree old id) → new p ≡ old p) → pages_of_tree new id ≡ pages_of_tree old id
+pub tree_stays : (old new : Image) (id : ℕ) → entry new id ≡ entry old id → ((p : ℕ) → 0 < times p (pages_of_tree old id) → new p ≡ old p)
+    → pages_of_tree new id ≡ pages_of_tree old id
 tree_stays old new id says same =
     ap (λ (e : Entry). tree_pages new (page_levels e.slots) e.root) says
     ∙ pages_frame old new (page_levels (entry old id).slots) (entry old id).root same

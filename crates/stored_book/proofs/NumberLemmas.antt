@@ -66,7 +66,8 @@ small_numbers count s small rules = record {
   series = omega (arith, rules.series_high);
 }
 
-pub numbers : (image : Image) (total : ℕ) (book : List Series) (s : Superblock) → StandsForBook image total book → image 0 ≡ superblock_page s → IsSmall s → IsStore image s book × (s.total ≡ total)
+pub numbers : (image : Image) (total : ℕ) (book : List Series) (s : Superblock) → StandsForBook image total book
+    → image 0 ≡ superblock_page s → IsSmall s → IsStore image s book × (s.total ≡ total)
 numbers image total book s stands spelled small =
     let t : Superblock = stands.superblock in
     let store : IsStore image t book = stands.store in
@@ -77,4 +78,5 @@ numbers image total book s stands spelled small =
 -- two stores of the same pages have the same numbers
 pub one_superblock : (image : Image) (s t : Superblock) (book book' : List Series) → IsStore image s book → IsStore image t book' → t ≡ s
 one_superblock image s t book book' store store' =
-    one_page t s (small_numbers t.total t store'.small store'.stands.rules) (small_numbers s.total s store.small store.stands.rules) (sym store'.stands.spelled ∙ store.stands.spelled)
+    one_page t s (small_numbers t.total t store'.small store'.stands.rules) (small_numbers s.total s store.small store.stands.rules)
+    (sym store'.stands.spelled ∙ store.stands.spelled)

@@ -1,5 +1,6 @@
 -- Pages stand for one book.
-use Rattle.std.proofs.Common.{◌≡◌, ℕ, ℤ, ◌+◌, ◌-◌, ◌*◌, ◌^◌, ◌<◌, List, length, get_or, Option, None, Some, refl, sym, ap, ap₂, subst, ◌∙◌, arith}
+use Rattle.std.proofs.Common.{◌≡◌, ℕ, ℤ, ◌+◌, ◌-◌, ◌*◌, ◌^◌, ◌<◌, List, length, get_or, Option, None, Some, refl, sym, ap, ap₂, subst, ◌∙◌}
+use Rattle.std.proofs.Common.{arith}
 use Rattle.std.proofs.lemmas.List.{same_lists}
 use Rattle.std.proofs.lemmas.Option.{same_Some, slice_get-get_or}
 use Rattle.block_disk.specs.View.{Image}
@@ -41,12 +42,16 @@ slot_key_span list i =
     ap₂ (λ a b. span_over list a b) (omega (arith, ap (λ w. i * w) one)) (omega (arith, ap (λ w. (i + 1) * w) one)) ∙ slot_span list i
 
 -- what the pages tell of a slot is its span
-pub told_slot : (image : Image) (total : ℕ) (tree : Tree) (list : List (Option ℤ)) (i : ℕ) → StandsFor image total tree list → i < length list
+pub told_slot : (image : Image) (total : ℕ) (tree : Tree) (list : List (Option ℤ)) (i : ℕ) → StandsFor image total tree list
+    → i < length list
     → known tree.span (told_by_pages image tree) (height tree.slots) (slot_key i) ≡ Some (span list (slot_key i))
 told_slot image total tree list i stands within =
     let whole : height (length list) - 0 ≡ height (length list) = omega arith in
     let W : ℕ → Type 0 = λ n. i < 2 ^ n in
-    let key : IsKey (height (length list)) (slot_key i) = record { high = omega arith; within = subst W (sym whole) (omega (arith, within, height_covers (length list) stands.few)) } in
+    let key : IsKey (height (length list)) (slot_key i) = record {
+      high = omega arith;
+      within = subst W (sym whole) (omega (arith, within, height_covers (length list) stands.few));
+    } in
     ap (λ n. known tree.span (told_by_pages image tree) (height n) (slot_key i)) stands.slots
     ∙ known_spans tree.span (told_by_pages image tree) list (slot_key i) stands.values stands.root_span key
     (λ w node low above some. standing_told image total tree list w stands node some)
@@ -56,13 +61,15 @@ unfolding slot_at
 slot_is list i d within = ap (λ x. value_of x) (slice_get-get_or list i d within)
 
 -- pages and a tree stand for one list
-pub one_list : (image : Image) (total : ℕ) (tree : Tree) (list list' : List (Option ℤ)) → StandsFor image total tree list → StandsFor image total tree list' → list' ≡ list
+pub one_list : (image : Image) (total : ℕ) (tree : Tree) (list list' : List (Option ℤ)) → StandsFor image total tree list
+    → StandsFor image total tree list' → list' ≡ list
 one_list image total tree list list' stands stands' =
     let long : length list' ≡ length list = sym stands'.slots ∙ stands.slots in
     same_lists list' list long (λ i d within'.
     let within : i < length list = omega (arith, within', long) in
     let spans : span list' (slot_key i) ≡ span list (slot_key i) =
-    same_Some (span list' (slot_key i)) (span list (slot_key i)) (sym (told_slot image total tree list' i stands' within') ∙ told_slot image total tree list i stands within) in
+    same_Some (span list' (slot_key i)) (span list (slot_key i)) (sym (told_slot image total tree list' i stands' within')
+    ∙ told_slot image total tree list i stands within) in
     let slots : slot_at list' i ≡ slot_at list i =
     one_slot (slot_at list' i) (slot_at list i) (sym (slot_key_span list' i) ∙ spans ∙ slot_key_span list i) in
     sym (slot_is list' i d within') ∙ slots ∙ slot_is list i d within)
@@ -97,20 +104,25 @@ one_stored image s book book' store store' =
     (store.kept k (get_or book k d) (slice_get-get_or book k d within))
     (store'.kept k (get_or book' k d) (slice_get-get_or book' k d within')))
 
-pub one_book : (image : Image) (total total' : ℕ) (book book' : List Series) → StandsForBook image total book → StandsForBook image total' book' → book' ≡ book
+pub one_book : (image : Image) (total total' : ℕ) (book book' : List Series) → StandsForBook image total book
+    → StandsForBook image total' book' → book' ≡ book
 one_book image total total' book book' stands stands' =
-    let same : stands'.superblock ≡ stands.superblock = one_superblock image stands.superblock stands'.superblock book book' stands.store stands'.store in
+    let same : stands'.superblock ≡ stands.superblock = one_superblock image stands.superblock stands'.superblock book book' stands.store
+    stands'.store in
     let P : Superblock → Type 0 = λ s. IsStore image s book' in
     one_stored image stands.superblock book book' stands.store (subst P same stands'.store)
 
-pub one_total : (image : Image) (total total' : ℕ) (book book' : List Series) → StandsForBook image total book → StandsForBook image total' book' → total' ≡ total
+pub one_total : (image : Image) (total total' : ℕ) (book book' : List Series) → StandsForBook image total book
+    → StandsForBook image total' book' → total' ≡ total
 one_total image total total' book book' stands stands' =
     sym stands'.total_is
     ∙ ap (λ (s : Superblock). s.total) (one_superblock image stands.superblock stands'.superblock book book' stands.store stands'.store)
     ∙ stands.total_is
 
-pub recovered_total : (count : ℕ) (image : Image) (total total' : ℕ) (book book' : List Series) → RecoversTo count image total book → RecoversTo count image total' book' → total' ≡ total
+pub recovered_total : (count : ℕ) (image : Image) (total total' : ℕ) (book book' : List Series) → RecoversTo count image total book
+    → RecoversTo count image total' book' → total' ≡ total
 recovered_total count image total total' book book' is is' = one_total (book_pages count image) total total' book book' is.stands is'.stands
 
-pub recovered_book : (count : ℕ) (image : Image) (total total' : ℕ) (book book' : List Series) → RecoversTo count image total book → RecoversTo count image total' book' → book' ≡ book
+pub recovered_book : (count : ℕ) (image : Image) (total total' : ℕ) (book book' : List Series) → RecoversTo count image total book
+    → RecoversTo count image total' book' → book' ≡ book
 recovered_book count image total total' book book' is is' = one_book (book_pages count image) total total' book book' is.stands is'.stands

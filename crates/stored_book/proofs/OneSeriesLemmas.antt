@@ -14,16 +14,20 @@ use Rattle.stored_book.specs.Standing.{IsKept, IsStore}
 use Rattle.stored_book.proofs.TellingLemmas.{series_are}
 
 -- no two series of a book have one name
-apart : (book : List Series) (i j : ℕ) (one other : Series) → IsBook book → slice_get book i ≡ Some one → slice_get book j ≡ Some other → one.name ≡ other.name → i < j → ⊥
+apart : (book : List Series) (i j : ℕ) (one other : Series) → IsBook book → slice_get book i ≡ Some one → slice_get book j ≡ Some other
+    → one.name ≡ other.name → i < j → ⊥
 apart book i j one other is at at' same before =
     let name : Series → List ℕ = λ x. x.name in
     let within : j < length book = slice_get_within book j other at' in
     let low : i < length book = omega (arith, before, within) in
-    let first : get_or (map name book) i one.name ≡ one.name = get_or-map name book i one one.name low ∙ ap name (get_or_from_slice_get book i one one at) in
-    let second : get_or (map name book) j one.name ≡ other.name = get_or-map name book j other one.name within ∙ ap name (get_or_from_slice_get book j other other at') in
+    let first : get_or (map name book) i one.name ≡ one.name = get_or-map name book i one one.name low
+    ∙ ap name (get_or_from_slice_get book i one one at) in
+    let second : get_or (map name book) j one.name ≡ other.name = get_or-map name book j other one.name within
+    ∙ ap name (get_or_from_slice_get book j other other at') in
     is.distinct i j one.name before (omega (arith, within, length-map book name)) (first ∙ same ∙ sym second)
 
-one_id : (book : List Series) (i j : ℕ) (one other : Series) → IsBook book → slice_get book i ≡ Some one → slice_get book j ≡ Some other → one.name ≡ other.name → j ≡ i
+one_id : (book : List Series) (i j : ℕ) (one other : Series) → IsBook book → slice_get book i ≡ Some one → slice_get book j ≡ Some other
+    → one.name ≡ other.name → j ≡ i
 one_id book i j one other is at at' same = elim (cases_lt i j) [
   | inl before ↦ absurd (apart book i j one other is at at' same before)
   | inr low ↦ elim (cases_lt j i) [
@@ -32,7 +36,8 @@ one_id book i j one other is at at' same = elim (cases_lt i j) [
   ]
 ]
 
-pub holds_each : (image : Image) (s : Superblock) (book : List Series) (id : ℕ) (series : Series) → IsStore image s book → slice_get book id ≡ Some series → HoldsSeries image s series.name series
+pub holds_each : (image : Image) (s : Superblock) (book : List Series) (id : ℕ) (series : Series) → IsStore image s book
+    → slice_get book id ≡ Some series → HoldsSeries image s series.name series
 holds_each image s book id series store there = record {
   id = id;
   there = omega (arith, slice_get_within book id series there, store.series_are);
@@ -45,7 +50,8 @@ holds_each image s book id series store there = record {
   so = store.kept id series there;
 }
 
-pub one_series : (image : Image) (s : Superblock) (name : List ℕ) (series other : Series) → HoldsSeries image s name series → HoldsSeries image s name other → other ≡ series
+pub one_series : (image : Image) (s : Superblock) (name : List ℕ) (series other : Series) → HoldsSeries image s name series
+    → HoldsSeries image s name other → other ≡ series
 one_series image s name series other holds holds' =
     let P : ℕ → Type 0 = λ id. IsKept image s.total other (entry image id) in
     let kept : IsKept image s.total other (entry image holds.id) = subst P (holds.alone holds'.id holds'.there holds'.named) holds'.so in

@@ -1,5 +1,6 @@
 -- A book counts the pages of a list level by level, a tree from its root down: both count the same.
-use Rattle.std.proofs.Common.{◌≡◌, ℕ, ℤ, zero, suc, ◌+◌, ◌-◌, ◌*◌, ◌^◌, ◌<◌, ◌≤◌, Bool, false, cond, ◌||◌, is_some, List, [], ◌∷◌, length, take, drop, Option, None, Some, refl, sym, ap, subst, arith, inl, inr, ◌∙◌}
+use Rattle.std.proofs.Common.{◌≡◌, ℕ, ℤ, zero, suc, ◌+◌, ◌-◌, ◌*◌, ◌^◌, ◌<◌, ◌≤◌, Bool, false, cond, ◌||◌, is_some, List, [], ◌∷◌, length}
+use Rattle.std.proofs.Common.{take, drop, Option, None, Some, refl, sym, ap, subst, arith, inl, inr, ◌∙◌}
 use Rattle.std.specs.List.{list_any}
 use Rattle.std.proofs.lemmas.Bool.{cases_lt}
 use Rattle.std.proofs.lemmas.Bool.Decides.{nat_tests}
@@ -73,10 +74,13 @@ levels_same n few = elim (cases_lt (128 ^ 1) n) [
   | inl past ↦ elim (cases_lt (128 ^ 2) n) [
     | inr two ↦ page_levels_is n 2 (omega arith) (omega arith) two (λ i from to. one_below n i to past) ∙ sym (two_levels n past two)
     | inl past' ↦ elim (cases_lt (128 ^ 3) n) [
-      | inr three ↦ page_levels_is n 3 (omega arith) (omega arith) three (λ i from to. two_below n i to past') ∙ sym (three_levels n past' three)
+      | inr three ↦ page_levels_is n 3 (omega arith) (omega arith) three (λ i from to. two_below n i to past')
+          ∙ sym (three_levels n past' three)
       | inl past'' ↦ elim (cases_lt (128 ^ 4) n) [
-        | inr four ↦ page_levels_is n 4 (omega arith) (omega arith) four (λ i from to. three_below n i to past'') ∙ sym (four_levels n past'' four)
-        | inl past''' ↦ page_levels_is n 5 (omega arith) (omega arith) (omega (arith, few)) (λ i from to. four_below n i to past''') ∙ sym (five_levels n past''')
+        | inr four ↦ page_levels_is n 4 (omega arith) (omega arith) four (λ i from to. three_below n i to past'')
+            ∙ sym (four_levels n past'' four)
+        | inl past''' ↦ page_levels_is n 5 (omega arith) (omega arith) (omega (arith, few)) (λ i from to. four_below n i to past''')
+            ∙ sym (five_levels n past''')
       ]
     ]
   ]
@@ -136,10 +140,12 @@ stored_range list level q =
     ∙ some_any (take (128 ^ level) (drop (q * 128 ^ level) list))
 
 -- where nothing is stored in a range there is nothing in its parts
-part_not_stored : (list : List (Option ℤ)) (level q c : ℕ) → c < 128 → is_stored list (suc level) q ≡ false → is_stored list level (128 * q + c) ≡ false
+part_not_stored : (list : List (Option ℤ)) (level q c : ℕ) → c < 128 → is_stored list (suc level) q ≡ false
+    → is_stored list level (128 * q + c) ≡ false
 part_not_stored list level q c within none =
     none_is (span list (top_of_page level (128 * q + c)))
-    (part_none list (first_slot (top_of_page (suc level) q)) (end_slot (top_of_page (suc level) q)) (first_slot (top_of_page level (128 * q + c))) (end_slot (top_of_page level (128 * q + c)))
+    (part_none list (first_slot (top_of_page (suc level) q)) (end_slot (top_of_page (suc level) q))
+    (first_slot (top_of_page level (128 * q + c))) (end_slot (top_of_page level (128 * q + c)))
     (child_first level q c) (child_end level q c within) (none_of (span list (top_of_page (suc level) q)) none))
 
 pub sum_zero : (f : ℕ → ℕ) (n : ℕ) → ((c : ℕ) → c < n → f c ≡ 0) → sum_below f n ≡ 0
@@ -159,7 +165,8 @@ count_step list level q = elim (truth (is_stored list (suc level) q)) [
     arith,
     count_no (is_stored list) level q none,
     ap (λ b. cond {A = ℕ} b 1 0) none,
-    sum_zero (λ c. page_count list level (128 * q + c)) 128 (λ c low. not_stored_none list level (128 * q + c) (part_not_stored list level q c low none)),
+    sum_zero (λ c. page_count list level (128 * q + c)) 128
+        (λ c low. not_stored_none list level (128 * q + c) (part_not_stored list level q c low none)),
   )
 ]
 
@@ -176,15 +183,27 @@ pub sum_parts : (f : ℕ → ℕ) (n : ℕ) → sum_below (λ q. sum_below (λ c
 sum_parts f zero = sum_none (λ q. sum_below (λ c. f (128 * q + c)) 128) ∙ sym (sum_none f)
 sum_parts f (suc n) =
     let next : 128 * suc n ≡ 128 * n + 128 = omega arith in
-    omega (arith, sum_suc (λ q. sum_below (λ c. f (128 * q + c)) 128) n, sum_parts f n, sum_add f (128 * n) 128, ap (λ k. sum_below f k) next)
+    omega (
+      arith,
+      sum_suc (λ q. sum_below (λ c. f (128 * q + c)) 128) n,
+      sum_parts f n,
+      sum_add f (128 * n) 128,
+      ap (λ k. sum_below f k) next,
+    )
 
 -- the pages of the first ranges of a page level: those of the level itself, and those of their parts
 rows_step : (list : List (Option ℤ)) (level n : ℕ)
-    → sum_below (λ q. page_count list (suc level) q) n ≡ count_below (is_stored list (suc level)) n + sum_below (λ q. page_count list level q) (128 * n)
+    → sum_below (λ q. page_count list (suc level) q) n ≡ count_below (is_stored list (suc level)) n + sum_below
+    (λ q. page_count list level q) (128 * n)
 unfolding count_below
 rows_step list level zero =
     let none : 128 * 0 ≡ 0 = refl in
-    omega (arith, sum_none (λ q. page_count list (suc level) q), sum_none (λ q. page_count list level q), ap (λ k. sum_below (λ q. page_count list level q) k) none)
+    omega (
+      arith,
+      sum_none (λ q. page_count list (suc level) q),
+      sum_none (λ q. page_count list level q),
+      ap (λ k. sum_below (λ q. page_count list level q) k) none,
+    )
 rows_step list level (suc n) =
     omega (
       arith,
@@ -202,7 +221,8 @@ count_upto p a b fits past =
     let sum : (b - a) + a ≡ b = omega (arith, fits) in
     ap (λ n. count_below p n) (sym sum) ∙ count_below-past p a (b - a) past
 
-count_stable : (p : ℕ → Bool) (a b : ℕ) → ((q : ℕ) → a ≤ q → p q ≡ false) → ((q : ℕ) → b ≤ q → p q ≡ false) → count_below p a ≡ count_below p b
+count_stable : (p : ℕ → Bool) (a b : ℕ) → ((q : ℕ) → a ≤ q → p q ≡ false) → ((q : ℕ) → b ≤ q → p q ≡ false)
+    → count_below p a ≡ count_below p b
 count_stable p a b past past' = elim (cases_lt a b) [
   | inl less ↦ sym (count_upto p a b (omega (arith, less)) past)
   | inr more ↦ count_upto p b a more past'
@@ -224,7 +244,8 @@ range_far size list n q holds past =
         omega (arith, holds, ap (λ k. k * size) sum)
 
 -- the ranges of a page level with a stored value
-ranges_same : (list : List (Option ℤ)) (level n : ℕ) → length list ≤ n * 128 ^ level → count_below (is_stored list level) n ≡ ranges_with_value (128 ^ level) list
+ranges_same : (list : List (Option ℤ)) (level n : ℕ) → length list ≤ n * 128 ^ level
+    → count_below (is_stored list level) n ≡ ranges_with_value (128 ^ level) list
 unfolding ranges_with_value
 ranges_same list level n holds =
     count_below-same (is_stored list level) (range_has_value (128 ^ level) list) n (λ q low. stored_range list level q)
@@ -241,7 +262,8 @@ part_sizes n level =
     product n p = omega arith
 
 -- the pages of ranges that hold the list are those of its levels
-rows_are_levels : (list : List (Option ℤ)) (level n : ℕ) → length list ≤ n * 128 ^ level → sum_below (λ q. page_count list level q) n ≡ level_pages level list
+rows_are_levels : (list : List (Option ℤ)) (level n : ℕ) → length list ≤ n * 128 ^ level
+    → sum_below (λ q. page_count list level q) n ≡ level_pages level list
 unfolding level_pages
 rows_are_levels list zero n holds = sum_zero (λ q. page_count list 0 q) n (λ q low. count_slots (is_stored list) q)
 rows_are_levels list (suc level) n holds =

@@ -29,20 +29,23 @@ unfolding superblock_page word
 page_long s = omega arith
 
 series_read : (s : Superblock) → s.series < 2 ^ 32 → number_at (superblock_page s) 4 24 ≡ s.series
-series_read s small = ap (λ page. number_at page 4 24) (series_written s) ∙ number_written 4 24 s.series (superblock_page s) (page_long s) small
+series_read s small = ap (λ page. number_at page 4 24) (series_written s)
+    ∙ number_written 4 24 s.series (superblock_page s) (page_long s) small
 
 -- a slot's span tells its value
 value_back : (x : Option ℤ) → value_known (Some (span_of_slot x)) ≡ x
 value_back None = refl
 value_back (Some v) = refl
 
-value_is : (image : Image) (total : ℕ) (tree : Tree) (list : List (Option ℤ)) (i : ℕ) → StandsFor image total tree list → i < length list → value_told image tree i ≡ slot_at list i
+value_is : (image : Image) (total : ℕ) (tree : Tree) (list : List (Option ℤ)) (i : ℕ) → StandsFor image total tree list → i < length list
+    → value_told image tree i ≡ slot_at list i
 value_is image total tree list i stands within =
     ap (λ x. value_known x) (told_slot image total tree list i stands within)
     ∙ ap (λ x. value_known (Some x)) (slot_key_span list i)
     ∙ value_back (slot_at list i)
 
-slots_are : (image : Image) (total : ℕ) (tree : Tree) (list : List (Option ℤ)) → StandsFor image total tree list → slots_told image tree ≡ list
+slots_are : (image : Image) (total : ℕ) (tree : Tree) (list : List (Option ℤ)) → StandsFor image total tree list
+    → slots_told image tree ≡ list
 unfolding slots_told
 slots_are image total tree list stands =
     sym (fill_by_all (value_told image tree) list tree.slots None (sym stands.slots) (λ i low.
@@ -69,6 +72,8 @@ unfolding book_of
 told_book image total book stands =
     let store : IsStore image stands.superblock book = stands.store in
     let counted : number_at (image 0) 4 24 ≡ length book = count_told image stands.superblock book store in
-    sym (fill_by_all (λ id. series_told image (entry image id)) book (number_at (image 0) 4 24) (series_told image (entry image 0)) (sym counted) (λ id low.
+    sym (fill_by_all (λ id. series_told image (entry image id)) book (number_at (image 0) 4 24) (series_told image (entry image 0))
+    (sym counted) (λ id low.
     let d : Series = series_told image (entry image 0) in
-    series_are image stands.superblock.total (get_or book id d) (entry image id) (store.kept id (get_or book id d) (slice_get-get_or book id d (omega (arith, low, counted))))))
+    series_are image stands.superblock.total (get_or book id d) (entry image id)
+    (store.kept id (get_or book id d) (slice_get-get_or book id d (omega (arith, low, counted))))))

@@ -11,5 +11,6 @@ leads_prop : (tree : Tree) (pages : List HeldPage) (len : ℕ) (asked : Option K
 leads_prop tree pages len None = hlevel props
 leads_prop tree pages len (Some k) = hlevel props
 
-pub trail_prop : (tells : Type 0) (image : Image) (total : ℕ) (tree : Tree) (pages : List HeldPage) (len : ℕ) (asked : Option Key) → IsProp (IsTrailOf tells image total tree pages len asked)
+pub trail_prop : (tells : Type 0) (image : Image) (total : ℕ) (tree : Tree) (pages : List HeldPage) (len : ℕ) (asked : Option Key)
+    → IsProp (IsTrailOf tells image total tree pages len asked)
 trail_prop tells image total tree pages len asked = hlevel (props, leads_prop)

@@ -25,29 +25,35 @@ left_in image id other differ = ap (λ b. cond b [] (pages_of_tree image other))
 
 -- The pages of all trees are those of one and those of the others, where the others are trees of these pages or of
 -- other ones.
-pub with_others : (image old : Image) (count id p : ℕ) → id < count → ((c : ℕ) → c < count → c ≢ id → pages_of_tree image c ≡ pages_of_tree old c)
+pub with_others : (image old : Image) (count id p : ℕ) → id < count
+    → ((c : ℕ) → c < count → c ≢ id → pages_of_tree image c ≡ pages_of_tree old c)
     → times p (pages_of_trees image count) ≡ times p (pages_of_tree image id ++ pages_of_others old count id)
 with_others image old count id p within same =
-    let swap = times_swap p (pages_of_tree image) (without old id) id count within (λ c low other. left_in old id c other ∙ sym (same c low other)) in
+    let swap = times_swap p (pages_of_tree image) (without old id) id count within (λ c low other. left_in old id c other
+    ∙ sym (same c low other)) in
     omega (arith, swap, ap (λ l. times p l) (left_out old id), times_append p (pages_of_tree image id) (pages_of_others old count id))
 
 -- the pages of a tree are behind the catalog
-pub tree_behind : (image : Image) (s : Superblock) (book : List Series) (c p : ℕ) → IsStore image s book → c < length book → 0 < times p (pages_of_tree image c) → 17 ≤ p
+pub tree_behind : (image : Image) (s : Superblock) (book : List Series) (c p : ℕ) → IsStore image s book → c < length book
+    → 0 < times p (pages_of_tree image c) → 17 ≤ p
 tree_behind image s book c p store within there =
     (once_given s.fresh p (omega (arith, there, store.stands.parted p, times_in_join p (pages_of_tree image) c (length book) within))).0
 
 -- and they are among those of the others
-pub in_others : (image : Image) (count id c p : ℕ) → c < count → c ≢ id → 0 < times p (pages_of_tree image c) → 0 < times p (pages_of_others image count id)
+pub in_others : (image : Image) (count id c p : ℕ) → c < count → c ≢ id → 0 < times p (pages_of_tree image c)
+    → 0 < times p (pages_of_others image count id)
 in_others image count id c p within other there =
     omega (arith, there, ap (λ l. times p l) (left_in image id c other), times_in_join p (without image id) c count within)
 
-pub held : (image : Image) (s : Superblock) (book : List Series) (id : ℕ) (series : Series) → IsStore image s book → slice_get book id ≡ Some series
+pub held : (image : Image) (s : Superblock) (book : List Series) (id : ℕ) (series : Series) → IsStore image s book
+    → slice_get book id ≡ Some series
     → IsHeldTree s.total image s (tree_of (entry image id)) series.slots (pages_of_others image (length book) id)
 held image s book id series store there =
     let within : id < length book = slice_get_within book id series there in
     record {
       is_tree = (store.kept id series there).tree;
       freed = store.freed;
-      stands = same_pages s.total image s (pages_of_trees image (length book)) (pages_of_tree image id ++ pages_of_others image (length book) id) store.freed store.stands
+      stands = same_pages s.total image s (pages_of_trees image (length book))
+          (pages_of_tree image id ++ pages_of_others image (length book) id) store.freed store.stands
           (λ p. with_others image image (length book) id p within (λ c low other. refl));
     }

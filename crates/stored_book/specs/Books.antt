@@ -20,7 +20,8 @@ value_known (Some (Some span)) = Some span.min
 
 -- the value that pages and a tree tell of a slot
 abbrev pub value_told : Image → Tree → ℕ → Option ℤ
-value_told image tree slot = value_known (known tree.span (told_by_pages image tree) (height tree.slots) (record { level = 0; index = slot }))
+value_told image tree slot = value_known (known tree.span (told_by_pages image tree) (height tree.slots)
+    (record { level = 0; index = slot }))
 
 -- the slots that they tell
 unfoldable pub slots_told : Image → Tree → List (Option ℤ)

@@ -38,4 +38,5 @@ KeepsRecords before after id fresh = (count : ℕ) → number_of id < count → 
     → KeepsLayout count fresh (before (page_of id)) → KeepsLayout count fresh (after (page_of id))
 
 abbrev pub AddsRecord : Image → Image → ℕ → ℕ → Type 0
-AddsRecord before after id fresh = KeepsLayout (number_of id) fresh (before (page_of id)) → KeepsLayout (number_of id + 1) fresh (after (page_of id))
+AddsRecord before after id fresh = KeepsLayout (number_of id) fresh (before (page_of id))
+    → KeepsLayout (number_of id + 1) fresh (after (page_of id))

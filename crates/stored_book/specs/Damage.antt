@@ -33,7 +33,8 @@ pub record IsDamagedBelow (image : Image) (s : Superblock) (page : ℕ) : Type 0
 pub record UsesOnce (image : Image) (s : Superblock) : Type 0 where
   pub fits : ℕ → ℕ → Bool
   pub tells : TellsUnfit image s.total fits
-  pub apart : AreApart image s (join_below (λ id. reached_pages fits image (page_levels (entry image id).slots) (entry image id).root) s.series)
+  pub apart : AreApart image s (join_below (λ id. reached_pages fits image (page_levels (entry image id).slots) (entry image id).root)
+      s.series)
 
 -- the page is so where no page is used twice
 abbrev pub IsDamagedOnce : Image → Superblock → ℕ → Type 0
@@ -45,4 +46,5 @@ IsBadForEdit count image page = SaysNumbers count image (λ s. (page < s.total) 
 
 -- A page that an edit or a view calls damaged is below the total that page 0 says, and is so for the one or the other.
 abbrev pub IsBadForRequest : ℕ → Image → ℕ → Type 0
-IsBadForRequest count image page = SaysNumbers count image (λ s. (page < s.total) × (IsDamagedOnWay image s page ⊎ IsDamagedOnce image s page))
+IsBadForRequest count image page = SaysNumbers count image (λ s. (page < s.total)
+    × (IsDamagedOnWay image s page ⊎ IsDamagedOnce image s page))

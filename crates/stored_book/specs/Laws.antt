@@ -25,7 +25,8 @@ SeriesHaveTheirTrees =
 -- Where the tree of one series was changed and its record set, the pages hold the changed book.
 abbrev pub ChangedSeriesStand : Type 0
 ChangedSeriesStand =
-    (before mid after : Image) (s s' : Superblock) (book : List Series) (id : ℕ) (series : Series) (slots : List (Option ℤ)) (tree : Tree) (e : Entry)
+    (before mid after : Image) (s s' : Superblock) (book : List Series) (id : ℕ) (series : Series) (slots : List (Option ℤ)) (tree : Tree)
+    (e : Entry)
     → IsStore before s book → slice_get book id ≡ Some series → IsLater s s' → IsTreeChanged before mid (length book) id s' tree slots
     → IsRecordOf series e → tree_of e ≡ tree → IsRecordSet mid after id e → KeepsRecords mid after id s'.fresh
     → IsBook (with_slots book id series slots) → IsStore after s' (with_slots book id series slots)
@@ -34,7 +35,8 @@ ChangedSeriesStand =
 abbrev pub AddedSeriesStand : Type 0
 AddedSeriesStand =
     (before mid after : Image) (s : Superblock) (book : List Series) (series : Series) (e : Entry)
-    → IsStore before s book → length book < 512 → mid 0 ≡ superblock_page (with_series s (length book + 1)) → ((p : ℕ) → p ≢ 0 → mid p ≡ before p)
+    → IsStore before s book → length book < 512 → mid 0 ≡ superblock_page (with_series s (length book + 1))
+    → ((p : ℕ) → p ≢ 0 → mid p ≡ before p)
     → IsRecordOf series e → series.slots ≡ [] → e.slots ≡ 0 → e.root ≡ 0 → e.span ≡ None → IsRecordSet mid after (length book) e
     → AddsRecord mid after (length book) s.fresh → IsBook (book ++ series ∷ [])
     → IsStore after (with_series s (length book + 1)) (book ++ series ∷ [])
@@ -43,5 +45,6 @@ AddedSeriesStand =
 abbrev pub FullTreesAreFullBooks : Type 0
 FullTreesAreFullBooks =
     (image : Image) (s : Superblock) (book : List Series) (id : ℕ) (series : Series) (slots : List (Option ℤ)) (needed have : ℕ)
-    → IsStore image s book → slice_get book id ≡ Some series → length slots ≤ MOST_SLOTS → IsFullFor s.total (in_use s) series.slots slots needed have
+    → IsStore image s book → slice_get book id ≡ Some series → length slots ≤ MOST_SLOTS
+    → IsFullFor s.total (in_use s) series.slots slots needed have
     → (pages_of (with_slots book id series slots) ≡ needed) × (have ≡ s.total) × (s.total < needed)

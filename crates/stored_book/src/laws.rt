@@ -17,8 +17,10 @@ ghost use Rattle.stored_book.specs.Laws.{SeriesHaveTheirTrees, ChangedSeriesStan
 
 /// Pages stand for one book alone, with one total.
 pub fn pages_stand_for_one_book()
-    ensures total { (image : Image) (total total' : ℕ) (book book' : List Series) → StandsForBook image total book → StandsForBook image total' book' → total' ≡ total }
-    ensures book { (image : Image) (total total' : ℕ) (book book' : List Series) → StandsForBook image total book → StandsForBook image total' book' → book' ≡ book }
+    ensures total { (image : Image) (total total' : ℕ) (book book' : List Series) → StandsForBook image total book
+        → StandsForBook image total' book' → total' ≡ total }
+    ensures book { (image : Image) (total total' : ℕ) (book book' : List Series) → StandsForBook image total book
+        → StandsForBook image total' book' → book' ≡ book }
 {}
 
 /// Pages that stand for a book tell that book.
@@ -28,8 +30,10 @@ pub fn pages_tell_their_book()
 
 /// The image of a disk stands for one book alone.
 pub fn images_recover_to_one_book()
-    ensures total { (count : ℕ) (image : Image) (total total' : ℕ) (book book' : List Series) → RecoversTo count image total book → RecoversTo count image total' book' → total' ≡ total }
-    ensures book { (count : ℕ) (image : Image) (total total' : ℕ) (book book' : List Series) → RecoversTo count image total book → RecoversTo count image total' book' → book' ≡ book }
+    ensures total { (count : ℕ) (image : Image) (total total' : ℕ) (book book' : List Series) → RecoversTo count image total book
+        → RecoversTo count image total' book' → total' ≡ total }
+    ensures book { (count : ℕ) (image : Image) (total total' : ℕ) (book book' : List Series) → RecoversTo count image total book
+        → RecoversTo count image total' book' → book' ≡ book }
 {}
 
 /// Pages that stand for a book have the magic of version 2, so they are current. An image whose pages stand for a book
@@ -37,12 +41,14 @@ pub fn images_recover_to_one_book()
 pub fn books_stand_on_current_pages()
     ensures magic { (image : Image) (total : ℕ) (book : List Series) → StandsForBook image total book → HasMagic (image 0) }
     ensures current { (image : Image) (total : ℕ) (book : List Series) → StandsForBook image total book → current image ≡ image }
-    ensures recovers { (count : ℕ) (image : Image) (total : ℕ) (book : List Series) → IsReadable count image → total ≤ count → PagesStand count image total book → RecoversTo count image total book }
+    ensures recovers { (count : ℕ) (image : Image) (total : ℕ) (book : List Series) → IsReadable count image → total ≤ count
+        → PagesStand count image total book → RecoversTo count image total book }
 {}
 
 /// Page 0 decides the numbers with which pages stand.
 pub fn page_0_has_the_numbers()
-    ensures { (image : Image) (total : ℕ) (book : List Series) (s : Superblock) → StandsForBook image total book → image 0 ≡ superblock_page s → IsSmall s → IsStore image s book × (s.total ≡ total) }
+    ensures { (image : Image) (total : ℕ) (book : List Series) (s : Superblock) → StandsForBook image total book
+        → image 0 ≡ superblock_page s → IsSmall s → IsStore image s book × (s.total ≡ total) }
 {}
 
 /// The pages in use are as many as the book needs, which are no more than there are.

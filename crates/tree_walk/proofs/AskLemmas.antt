@@ -1,5 +1,6 @@
 -- What an ask answers.
-use Rattle.std.proofs.Common.{◌≡◌, ℕ, suc, ◌+◌, ◌-◌, ◌*◌, ◌≤◌, List, true, Option, Some, None, Ok, Err, refl, sym, ap, ap₂, subst, inl, inr, ◌∙◌, arith}
+use Rattle.std.proofs.Common.{◌≡◌, ℕ, suc, ◌+◌, ◌-◌, ◌*◌, ◌≤◌, List, true, Option, Some, None, Ok, Err, refl, sym, ap, ap₂, subst, inl, inr}
+use Rattle.std.proofs.Common.{◌∙◌, arith}
 use Rattle.std.specs.Prelude.{Result, OnErr, is_err}
 use Rattle.block_disk.specs.View.{Image, View}
 use Rattle.om3_coeff.specs.declared.key.Key.{Key}
@@ -25,8 +26,10 @@ use Rattle.tree_walk.proofs.PathLemmas.{level_low, level_few, level_some, child_
 use Rattle.tree_walk.proofs.SeenLemmas.{child_is_there}
 
 -- the last page of the way
-pub end_there : (told told' : Type 0) (old new : View) (tree : Tree) (pages : List HeldPage) (len : ℕ) (k : Key) (depth : ℕ) → KeptWalking told told' old new
-    → AreHeld told' new.image new.size (page_levels tree.slots) pages len → LeadsTo tree pages len k → depth ≡ page_levels tree.slots - page_level k.level → told
+pub end_there : (told told' : Type 0) (old new : View) (tree : Tree) (pages : List HeldPage) (len : ℕ) (k : Key) (depth : ℕ)
+    → KeptWalking told told' old new
+    → AreHeld told' new.image new.size (page_levels tree.slots) pages len → LeadsTo tree pages len k
+    → depth ≡ page_levels tree.slots - page_level k.level → told
     → page_on_path old.image tree k (page_level k.level) ≡ Some (number_at pages depth)
 end_there told told' old new tree pages len k depth kept held leads is tells =
     let levels : ℕ = page_levels tree.slots in
@@ -38,31 +41,39 @@ end_there told told' old new tree pages len k depth kept held leads is tells =
     let P : ℕ → Type 0 = λ n. page_below old.image tree.root depth (path_index k n) ≡ Some (number_at pages depth) in
     let there : P (levels - depth) =
     ap (λ (i : Image). page_below i tree.root depth (path_index k (levels - depth))) (sym (kept.image tells))
-    ∙ held_below told' new.image new.size tree.root levels pages len k depth held leads.root (λ d below. leads.links d (omega (arith, below, is)))
+    ∙ held_below told' new.image new.size tree.root levels pages len k depth held leads.root
+    (λ d below. leads.links d (omega (arith, below, is)))
     (omega (arith, is, leads.long)) (omega (arith, is, some, high)) low (kept.told tells) in
     on_path old.image tree k own (number_at pages depth) depth high is (subst P back there)
 
 -- it is as the pages are
-pub end_bytes : (told told' : Type 0) (old new : View) (tree : Tree) (pages : List HeldPage) (len : ℕ) (k : Key) (depth : ℕ) → KeptWalking told told' old new
-    → AreHeld told' new.image new.size (page_levels tree.slots) pages len → LeadsTo tree pages len k → depth ≡ page_levels tree.slots - page_level k.level → told
+pub end_bytes : (told told' : Type 0) (old new : View) (tree : Tree) (pages : List HeldPage) (len : ℕ) (k : Key) (depth : ℕ)
+    → KeptWalking told told' old new
+    → AreHeld told' new.image new.size (page_levels tree.slots) pages len → LeadsTo tree pages len k
+    → depth ≡ page_levels tree.slots - page_level k.level → told
     → bytes_at pages depth ≡ old.image (number_at pages depth)
 end_bytes told told' old new tree pages len k depth kept held leads is tells =
-    (held depth (omega (arith, is, leads.long))).as_told (kept.told tells) ∙ ap (λ (i : Image). i (number_at pages depth)) (kept.image tells)
+    (held depth (omega (arith, is, leads.long))).as_told (kept.told tells)
+    ∙ ap (λ (i : Image). i (number_at pages depth)) (kept.image tells)
 
 pub end_keeps : (told : Type 0) (image : Image) (total : ℕ) (tree : Tree) (pages : List HeldPage) (len : ℕ) (k : Key) (depth : ℕ)
-    → AreHeld told image total (page_levels tree.slots) pages len → LeadsTo tree pages len k → depth ≡ page_levels tree.slots - page_level k.level → KeepsLayout (bytes_at pages depth)
+    → AreHeld told image total (page_levels tree.slots) pages len → LeadsTo tree pages len k
+    → depth ≡ page_levels tree.slots - page_level k.level → KeepsLayout (bytes_at pages depth)
 end_keeps told image total tree pages len k depth held leads is = (held depth (omega (arith, is, leads.long))).keeps
 
 -- the coefficient that was read is the one at the key's node
-pub end_coef : (pages : List HeldPage) (depth : ℕ) (k : Key) (c : Coef) (node : ℕ) (page slice bytes : List ℕ) → c ≡ coef_at page node → page ≡ slice → slice ≡ bytes → bytes_at pages depth ≡ bytes
+pub end_coef : (pages : List HeldPage) (depth : ℕ) (k : Key) (c : Coef) (node : ℕ) (page slice bytes : List ℕ) → c ≡ coef_at page node
+    → page ≡ slice → slice ≡ bytes → bytes_at pages depth ≡ bytes
     → node ≡ node_number k → c ≡ coef_at (bytes_at pages depth) (node_number k)
 end_coef pages depth k c node page slice bytes is of value held number =
     let same : page ≡ bytes_at pages depth = of ∙ value ∙ sym held in
     is ∙ ap₂ (λ (b : List ℕ) (n : ℕ). coef_at b n) same number
 
 -- it is the one that the pages tell
-pub end_told : (told told' : Type 0) (old new : View) (tree : Tree) (pages : List HeldPage) (len : ℕ) (k : Key) (depth : ℕ) (c : Coef) → KeptWalking told told' old new
-    → AreHeld told' new.image new.size (page_levels tree.slots) pages len → LeadsTo tree pages len k → depth ≡ page_levels tree.slots - page_level k.level
+pub end_told : (told told' : Type 0) (old new : View) (tree : Tree) (pages : List HeldPage) (len : ℕ) (k : Key) (depth : ℕ) (c : Coef)
+    → KeptWalking told told' old new
+    → AreHeld told' new.image new.size (page_levels tree.slots) pages len → LeadsTo tree pages len k
+    → depth ≡ page_levels tree.slots - page_level k.level
     → c ≡ coef_at (bytes_at pages depth) (node_number k) → told → told_by_pages old.image tree k ≡ Some c
 end_told told told' old new tree pages len k depth c kept held leads is coef tells =
     told_at old.image tree k (number_at pages depth) (end_there told told' old new tree pages len k depth kept held leads is tells)
@@ -75,7 +86,8 @@ splits_none (Ok p) s c is none = absurd (cc)
 splits_none (Err e) s c is none = none
 
 -- what is damaged on the way to a key is damaged
-pub damaged_by : (image : Image) (total : ℕ) (tree : Tree) (k : Key) (s : Span) (page : ℕ) → IsNode (height tree.slots) k → known tree.span (told_by_pages image tree) (height tree.slots) k ≡ Some (Some s)
+pub damaged_by : (image : Image) (total : ℕ) (tree : Tree) (k : Key) (s : Span) (page : ℕ) → IsNode (height tree.slots) k
+    → known tree.span (told_by_pages image tree) (height tree.slots) k ≡ Some (Some s)
     → IsDamagedFor image total tree k s page → IsDamaged image total tree page
 damaged_by image total tree k s page node seen bad = record {
   key = k;
@@ -90,9 +102,12 @@ damaged_by image total tree k s page node seen bad = record {
 }
 
 -- it doesn't split
-pub end_way : (told told' : Type 0) (old new : View) (tree : Tree) (pages : List HeldPage) (len : ℕ) (k : Key) (s : Span) (depth number : ℕ) (c : Coef) → KeptWalking told told' old new
-    → AreHeld told' new.image new.size (page_levels tree.slots) pages len → LeadsTo tree pages len k → depth ≡ page_levels tree.slots - page_level k.level
-    → number_at pages depth ≡ number → c ≡ coef_at (bytes_at pages depth) (node_number k) → parts s c ≡ None → told → IsDamagedFor old.image old.size tree k s number
+pub end_way : (told told' : Type 0) (old new : View) (tree : Tree) (pages : List HeldPage) (len : ℕ) (k : Key) (s : Span) (depth number : ℕ)
+    (c : Coef) → KeptWalking told told' old new
+    → AreHeld told' new.image new.size (page_levels tree.slots) pages len → LeadsTo tree pages len k
+    → depth ≡ page_levels tree.slots - page_level k.level
+    → number_at pages depth ≡ number → c ≡ coef_at (bytes_at pages depth) (node_number k) → parts s c ≡ None → told
+    → IsDamagedFor old.image old.size tree k s number
 end_way told told' old new tree pages len k s depth number c kept held leads is same coef bad tells =
     let own : ℕ = page_level k.level in
     let there = end_there told told' old new tree pages len k depth kept held leads is tells in
@@ -108,14 +123,19 @@ end_way told told' old new tree pages len k s depth number c kept held leads is 
     } in
     subst P same here
 
-pub end_bad : (told told' : Type 0) (old new : View) (tree : Tree) (pages : List HeldPage) (len : ℕ) (k : Key) (s : Span) (depth number : ℕ) (c : Coef) → KeptWalking told told' old new
-    → AreHeld told' new.image new.size (page_levels tree.slots) pages len → LeadsTo tree pages len k → depth ≡ page_levels tree.slots - page_level k.level
-    → IsSeen told old tree k s → number_at pages depth ≡ number → c ≡ coef_at (bytes_at pages depth) (node_number k) → parts s c ≡ None → told → IsDamaged old.image old.size tree number
+pub end_bad : (told told' : Type 0) (old new : View) (tree : Tree) (pages : List HeldPage) (len : ℕ) (k : Key) (s : Span) (depth number : ℕ)
+    (c : Coef) → KeptWalking told told' old new
+    → AreHeld told' new.image new.size (page_levels tree.slots) pages len → LeadsTo tree pages len k
+    → depth ≡ page_levels tree.slots - page_level k.level
+    → IsSeen told old tree k s → number_at pages depth ≡ number → c ≡ coef_at (bytes_at pages depth) (node_number k) → parts s c ≡ None
+    → told → IsDamaged old.image old.size tree number
 end_bad told told' old new tree pages len k s depth number c kept held leads is seen same coef bad tells =
-    damaged_by old.image old.size tree k s number leads.node (seen tells) (end_way told told' old new tree pages len k s depth number c kept held leads is same coef bad tells)
+    damaged_by old.image old.size tree k s number leads.node (seen tells)
+    (end_way told told' old new tree pages len k s depth number c kept held leads is same coef bad tells)
 
 -- a page on the way that is found bad is damaged
-path_fault : (view : View) (tree : Tree) (k : Key) (s : Span) (page : ℕ) → IsNode (height tree.slots) k → known tree.span (told_by_pages view.image tree) (height tree.slots) k ≡ Some (Some s)
+path_fault : (view : View) (tree : Tree) (k : Key) (s : Span) (page : ℕ) → IsNode (height tree.slots) k
+    → known tree.span (told_by_pages view.image tree) (height tree.slots) k ≡ Some (Some s)
     → (bad : IsBadOnPath view tree k page) → HasFault view.size k s bad.level (view.image page)
 path_fault view tree k s page node seen bad = elim bad.bad [
   | inl broken ↦ elim broken [ inl keeps ↦ inl keeps | inr level ↦ inr (inl level) ]
@@ -124,15 +144,18 @@ path_fault view tree k s page node seen bad = elim bad.bad [
         let level : ℕ = bad.level - 1 in
         let up : bad.level ≡ suc level = omega (arith, names.below) in
         let there : page_on_path view.image tree k (suc level) ≡ Some page = ap (page_on_path view.image tree k) (sym up) ∙ bad.there in
-        let zero_child : child_at (view.image page) (path_child k (suc level)) ≡ 0 = ap (λ n. child_at (view.image page) (path_child k n)) (sym up) ∙ none in
+        let zero_child : child_at (view.image page) (path_child k (suc level)) ≡ 0 = ap (λ n. child_at (view.image page) (path_child k n))
+        (sym up) ∙ none in
         absurd (child_is_there view.image tree k s level page seen
-        (level_low k.level level (omega (arith, names.below, up))) (omega (arith, names.below, up, level_some k.level node.low)) (omega (arith, bad.below, up))
+        (level_low k.level level (omega (arith, names.below, up))) (omega (arith, names.below, up, level_some k.level node.low))
+        (omega (arith, bad.below, up))
         there names.keeps (names.level_is ∙ up) zero_child)
     | inr past ↦ inr (inr (inl (record { child = path_child k bad.level; within = child_few k bad.level; beyond = past })))
   ]
 ]
 
-pub path_damaged : (view : View) (tree : Tree) (k : Key) (s : Span) (page : ℕ) → IsNode (height tree.slots) k → known tree.span (told_by_pages view.image tree) (height tree.slots) k ≡ Some (Some s)
+pub path_damaged : (view : View) (tree : Tree) (k : Key) (s : Span) (page : ℕ) → IsNode (height tree.slots) k
+    → known tree.span (told_by_pages view.image tree) (height tree.slots) k ≡ Some (Some s)
     → IsBadOnPath view tree k page → IsDamagedFor view.image view.size tree k s page
 path_damaged view tree k s page node seen bad = record {
   level = bad.level;
@@ -142,24 +165,31 @@ path_damaged view tree k s page node seen bad = record {
   fault = path_fault view tree k s page node seen bad;
 }
 
-pub path_way : (told : Type 0) (old new : View) (tree : Tree) (k : Key) (s : Span) (e : NodeError) → IsNode (height tree.slots) k → IsSeen told old tree k s
+pub path_way : (told : Type 0) (old new : View) (tree : Tree) (k : Key) (s : Span) (e : NodeError) → IsNode (height tree.slots) k
+    → IsSeen told old tree k s
     → IsCauseOf told old new tree k e → IsWayError told old tree k s e
 path_way told old new tree k s DiskFault node seen cause = tt
 path_way told old new tree k s (Damaged page) node seen cause = λ tells. path_damaged old tree k s page node (seen tells) (cause.1 tells)
 path_way told old new tree k s (Missing key) node seen cause = cause
 path_way told old new tree k s (BadCoefficient key) node seen cause = cause
 
-pub path_cause : (old new : Ground) (trail trail' : Trail) (k : Key) (s : Span) (e : NodeError) → IsNode (height old.tree.slots) k → IsSeen old.told old.view old.tree k s
+pub path_cause : (old new : Ground) (trail trail' : Trail) (k : Key) (s : Span) (e : NodeError) → IsNode (height old.tree.slots) k
+    → IsSeen old.told old.view old.tree k s
     → IsCauseOf old.told old.view new.view old.tree k e → HasCause (paged_view old trail) (paged_view new trail') e
 path_cause old new trail trail' k s DiskFault node seen cause = cause
-path_cause old new trail trail' k s (Damaged page) node seen cause =
-    (cause.0, λ tells. damaged_by old.view.image old.view.size old.tree k s page node (seen tells) (path_damaged old.view old.tree k s page node (seen tells) (cause.1 tells)))
+path_cause old new trail trail' k s (Damaged page) node seen cause = (
+  cause.0,
+  λ tells. damaged_by old.view.image old.view.size old.tree k s page node (seen tells)
+      (path_damaged old.view old.tree k s page node (seen tells) (cause.1 tells)),
+)
 path_cause old new trail trail' k s (Missing key) node seen cause = cause
 path_cause old new trail trail' k s (BadCoefficient key) node seen cause = cause
 
 -- the reads of an ask in tree order
-pub asked_reads : (tree : Tree) (pages : List HeldPage) (len : ℕ) (asked : Option Key) (k : Key) (old new : ℕ) → LeadsToAny tree pages len asked
-    → ((last : Key) → LeadsTo tree pages len last → MayFollow (height tree.slots) (Some last) k → new ≤ old + 1) → (k.level ≡ height tree.slots → new ≤ old + 1)
+pub asked_reads : (tree : Tree) (pages : List HeldPage) (len : ℕ) (asked : Option Key) (k : Key) (old new : ℕ)
+    → LeadsToAny tree pages len asked
+    → ((last : Key) → LeadsTo tree pages len last → MayFollow (height tree.slots) (Some last) k → new ≤ old + 1)
+    → (k.level ≡ height tree.slots → new ≤ old + 1)
     → MayFollow (height tree.slots) asked k → new ≤ old + 1
 asked_reads tree pages len None k old new leads order top (inl is) = top is
 asked_reads tree pages len None k old new leads order top (inr over) = absurd over

@@ -17,7 +17,8 @@ use Rattle.tree_walk.proofs.PathLemmas.{level_low}
 pub some_node : (o : Option Key) (k : Key) (top : ℕ) → o ≡ Some k → IfSome o (IsNode top) → IsNode top k
 some_node o k top is node = subst (λ (x : Option Key). IfSome x (IsNode top)) is node
 
-pub node_of_any : (tree : Tree) (pages : List HeldPage) (len : ℕ) (last : Option Key) → LeadsToAny tree pages len last → IfSome last (IsNode (height tree.slots))
+pub node_of_any : (tree : Tree) (pages : List HeldPage) (len : ℕ) (last : Option Key) → LeadsToAny tree pages len last
+    → IfSome last (IsNode (height tree.slots))
 node_of_any tree pages len None leads = tt
 node_of_any tree pages len (Some k) leads = leads.node
 
@@ -38,7 +39,8 @@ near_way k last p near deep =
     ∙ shr-shr k.index (7 * own - k.level) more
     ∙ ap (λ n. k.index / 2 ^ n) m)
 
-near_leads : (tree : Tree) (pages : List HeldPage) (len : ℕ) (k last : Key) → IsNode (height tree.slots) k → AreNear last k → LeadsTo tree pages len last → LeadsTo tree pages len k
+near_leads : (tree : Tree) (pages : List HeldPage) (len : ℕ) (k last : Key) → IsNode (height tree.slots) k → AreNear last k
+    → LeadsTo tree pages len last → LeadsTo tree pages len k
 near_leads tree pages len k last node near leads = record {
   node = node;
   long = omega (arith, near.0, leads.long);
@@ -51,6 +53,7 @@ near_leads tree pages len k last node near leads = record {
       };
 }
 
-pub near_leads_any : (tree : Tree) (pages : List HeldPage) (len : ℕ) (k : Key) (last : Option Key) → IsNode (height tree.slots) k → IsNear last k → LeadsToAny tree pages len last → LeadsTo tree pages len k
+pub near_leads_any : (tree : Tree) (pages : List HeldPage) (len : ℕ) (k : Key) (last : Option Key) → IsNode (height tree.slots) k
+    → IsNear last k → LeadsToAny tree pages len last → LeadsTo tree pages len k
 near_leads_any tree pages len k None node near leads = absurd near
 near_leads_any tree pages len k (Some last) node near leads = near_leads tree pages len k last node near leads

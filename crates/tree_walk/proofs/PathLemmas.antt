@@ -1,5 +1,6 @@
 -- The pages on the way to a key, one by one.
-use Rattle.std.proofs.Common.{◌≡◌, ◌≢◌, ℕ, zero, suc, ◌+◌, ◌-◌, ◌*◌, ◌/◌, ◌%◌, ◌^◌, ◌<◌, ◌≤◌, List, cond, Option, Some, None, refl, sym, ap, subst, inl, inr, ◌∙◌, arith}
+use Rattle.std.proofs.Common.{◌≡◌, ◌≢◌, ℕ, zero, suc, ◌+◌, ◌-◌, ◌*◌, ◌/◌, ◌%◌, ◌^◌, ◌<◌, ◌≤◌, List, cond, Option, Some, None, refl, sym, ap}
+use Rattle.std.proofs.Common.{subst, inl, inr, ◌∙◌, arith}
 use Rattle.std.specs.Option.{option_map}
 use Rattle.std.proofs.lemmas.Nat.{shr-shr}
 use Rattle.std.proofs.lemmas.Bool.Decides.{eqb_tells}
@@ -74,7 +75,8 @@ pub next_below : (image : Image) (root depth : ℕ) (k : Key) (level page : ℕ)
     → page_below image root (suc depth) (path_index k level) ≡ Some (child_at (image page) (path_child k (suc level)))
 unfolding page_below
 next_below image root depth k level page low is there =
-    let above : page_below image root depth (path_index k level / 128) ≡ Some page = ap (page_below image root depth) (path_up k level low) ∙ is in
+    let above : page_below image root depth (path_index k level / 128) ≡ Some page = ap (page_below image root depth) (path_up k level low)
+    ∙ is in
     ap (λ c. child_page image (page_below image root depth (path_index k level / 128)) c) (sym (child_on k level))
     ∙ child_some image (page_below image root depth (path_index k level / 128)) page (path_child k (suc level)) above there
 
@@ -82,7 +84,8 @@ pub root_below : (image : Image) (root index : ℕ) → page_below image root 0 
 unfolding page_below
 root_below image root index = refl
 
-linked_page : (image : Image) (root depth : ℕ) (k : Key) (levels level next number : ℕ) (bytes : List ℕ) → k.level ≤ 7 * level → levels - depth ≡ suc level
+linked_page : (image : Image) (root depth : ℕ) (k : Key) (levels level next number : ℕ) (bytes : List ℕ) → k.level ≤ 7 * level
+    → levels - depth ≡ suc level
     → page_below image root depth (path_index k (levels - depth)) ≡ Some number → bytes ≡ image number
     → next ≡ child_at bytes (path_child k (levels - depth)) → next ≢ 0
     → page_below image root (suc depth) (path_index k level) ≡ Some next
@@ -104,14 +107,16 @@ held_below tells image total root levels pages len k (suc depth) held first link
     let up : levels - depth ≡ suc (levels - suc depth) = omega (arith, deep) in
     let here : k.level ≤ 7 * (levels - depth) = omega (arith, low, up) in
     let link = links depth (omega arith) in
-    let above = held_below tells image total root levels pages len k depth held first (λ d below. links d (omega (arith, below))) (omega (arith, long)) (omega (arith, deep)) here told in
+    let above = held_below tells image total root levels pages len k depth held first (λ d below. links d (omega (arith, below)))
+    (omega (arith, long)) (omega (arith, deep)) here told in
     let next : depth + 1 ≡ suc depth = omega arith in
     linked_page image root depth k levels (levels - suc depth) (number_at pages (depth + 1)) (number_at pages depth) (bytes_at pages depth)
     low up above ((held depth (omega (arith, long))).as_told told) link.is link.there
     ∙ ap (λ n. Some (number_at pages n)) next
 
 -- by page levels in place of depths
-pub on_path : (image : Image) (tree : Tree) (k : Key) (level page depth : ℕ) → level ≤ page_levels tree.slots → depth ≡ page_levels tree.slots - level
+pub on_path : (image : Image) (tree : Tree) (k : Key) (level page depth : ℕ) → level ≤ page_levels tree.slots
+    → depth ≡ page_levels tree.slots - level
     → page_below image tree.root depth (path_index k level) ≡ Some page → page_on_path image tree k level ≡ Some page
 on_path image tree k level page depth within is there =
     ap (λ d. page_below image tree.root d (path_index k level)) (sym is) ∙ there

@@ -1,5 +1,6 @@
 -- Above a key that the pages give a span each page names the next one on the way.
-use Rattle.std.proofs.Common.{◌≡◌, ℕ, zero, suc, ◌+◌, ◌-◌, ◌*◌, ◌/◌, ◌%◌, ◌^◌, ◌≤◌, cond, Bool, true, false, Option, Some, None, refl, sym, ap, subst, ◌∙◌, arith}
+use Rattle.std.proofs.Common.{◌≡◌, ℕ, zero, suc, ◌+◌, ◌-◌, ◌*◌, ◌/◌, ◌%◌, ◌^◌, ◌≤◌, cond, Bool, true, false, Option, Some, None, refl, sym}
+use Rattle.std.proofs.Common.{ap, subst, ◌∙◌, arith}
 use Rattle.std.specs.Prelude.{◌==◌}
 use Rattle.std.specs.Option.{option_map}
 use Rattle.std.proofs.lemmas.Nat.{shr-shr}
@@ -30,7 +31,8 @@ record GivesSpan (index : ℕ) (above : Option (Option Span)) (told : Option Coe
   is : told ≡ Some coef
   gives : option_map (half index) (parts span coef) ≡ Some (Some s)
 
-gives_span : (index : ℕ) (above : Option (Option Span)) (told : Option Coef) (s : Span) → known_below index above told ≡ Some (Some s) → GivesSpan index above told s
+gives_span : (index : ℕ) (above : Option (Option Span)) (told : Option Coef) (s : Span) → known_below index above told ≡ Some (Some s)
+    → GivesSpan index above told s
 gives_span index None told s is = absurd (cc)
 gives_span index (Some None) told s is = absurd (cc)
 gives_span index (Some (Some span)) None s is = absurd (cc)
@@ -42,7 +44,8 @@ record IsSeenKey (root : Option Span) (told : Key → Option Coef) (top : ℕ) (
   seen : known root told top k ≡ Some (Some span)
 
 -- the keys above a key with a span have one
-seen_from : (root : Option Span) (told : Key → Option Coef) (top gap : ℕ) (w k : Key) (s : Span) → w.level ≤ top → w.level ≡ k.level + gap → k.index / 2 ^ gap ≡ w.index
+seen_from : (root : Option Span) (told : Key → Option Coef) (top gap : ℕ) (w k : Key) (s : Span) → w.level ≤ top → w.level ≡ k.level + gap
+    → k.index / 2 ^ gap ≡ w.index
     → known root told top k ≡ Some (Some s) → IsSeenKey root told top w
 seen_from root told top zero w k s high levels place seen =
     let P : Key → Type 0 = λ w. IsSeenKey root told top w in
@@ -53,7 +56,8 @@ seen_from root told top zero w k s high levels place seen =
 seen_from root told top (suc gap) w k s high levels place seen =
     let widths : k.index / 2 / 2 ^ gap ≡ k.index / 2 ^ suc gap =
     shr-shr k.index 1 gap ∙ ap (λ n. k.index / 2 ^ n) (omega arith) in
-    let up = gives_span k.index (known root told top (parent_of k)) (told (parent_of k)) s (sym (known_step root told top k (omega (arith, levels, high))) ∙ seen) in
+    let up = gives_span k.index (known root told top (parent_of k)) (told (parent_of k)) s
+    (sym (known_step root told top k (omega (arith, levels, high))) ∙ seen) in
     seen_from root told top gap w (parent_of k) up.span high (omega (arith, levels)) (widths ∙ place) up.seen
 
 seen_above : (root : Option Span) (told : Key → Option Coef) (top : ℕ) (w k : Key) (s : Span) → w.level ≤ top → IsAtOrAbove w k
@@ -77,7 +81,8 @@ right_flag l None s is = absurd (cc)
 right_flag None (Some r) s is = refl
 right_flag (Some l) (Some r) s is = refl
 
-by_side : (even : Bool) (l r : Option Span) (c : Coef) (s : Span) → coef_of l r ≡ c → cond even l r ≡ Some s → cond even c.left c.right ≡ true
+by_side : (even : Bool) (l r : Option Span) (c : Coef) (s : Span) → coef_of l r ≡ c → cond even l r ≡ Some s
+    → cond even c.left c.right ≡ true
 by_side true l r c s coef is = ap (λ (c : Coef). c.left) (sym coef) ∙ left_flag l r s is
 by_side false l r c s coef is = ap (λ (c : Coef). c.right) (sym coef) ∙ right_flag l r s is
 
@@ -96,7 +101,8 @@ top_above : (k : Key) (level : ℕ) → k.level ≤ 7 * level → IsAtOrAbove (t
 unfolding path_index top_below
 top_above k level low = record { higher = low; holds = refl }
 
-parent_path : (k : Key) (level : ℕ) → k.level ≤ 7 * level → path_index (parent_of (top_below k level)) (suc level) ≡ path_index k (suc level)
+parent_path : (k : Key) (level : ℕ) → k.level ≤ 7 * level
+    → path_index (parent_of (top_below k level)) (suc level) ≡ path_index k (suc level)
 unfolding path_index top_below
 parent_path k level low =
     let six : 7 * suc level - suc (7 * level) ≡ 6 = omega arith in
@@ -129,7 +135,8 @@ child_is_there image tree k s level page seen low some within there keeps is non
     ap (λ l. page_on_path image tree w l) of_w
     ∙ ap (λ i. page_below image tree.root (page_levels tree.slots - suc level) i) (parent_path k level low)
     ∙ there in
-    let coef_is : up.coef ≡ coef_at (image page) (node_number w) = same_Some up.coef (coef_at (image page) (node_number w)) (sym up.is ∙ told_at image tree w page page_of_w) in
+    let coef_is : up.coef ≡ coef_at (image page) (node_number w) = same_Some up.coef (coef_at (image page) (node_number w)) (sym up.is
+    ∙ told_at image tree w page page_of_w) in
     let flag : side_of (coef_at (image page) (node_number w)) v.index ≡ true =
     ap (λ (c : Coef). side_of c v.index) (sym coef_is) ∙ flag_of_half v.index up.span above.span up.coef up.gives in
     let child : ℕ = path_child k (suc level) in

@@ -18,11 +18,14 @@ use Rattle.tree_walk.specs.declared.trail.Trail.{Trail}
 use Rattle.tree_walk.specs.declared.held_page.HeldPage.{HeldPage}
 use Rattle.tree_walk.specs.Paths.{path_index, path_child, page_below}
 use Rattle.tree_walk.specs.Trails.{number_at, bytes_at, IsHeld, AreHeld, IsLinked, LeadsTo}
-use Rattle.tree_walk.specs.Holding.{IsBadPage, IsHit, IsSameAbove, KeptWalking, IsHoldCause, IsBadStep, IsStepCause, NamesNone, IsBadOnPath, IsCauseOf}
-use Rattle.tree_walk.proofs.PathLemmas.{level_low, level_few, level_grows, level_more, top_page, root_below, held_below, next_below, on_path}
+use Rattle.tree_walk.specs.Holding.{IsBadPage, IsHit, IsSameAbove, KeptWalking, IsHoldCause, IsBadStep, IsStepCause, NamesNone, IsBadOnPath}
+use Rattle.tree_walk.specs.Holding.{IsCauseOf}
+use Rattle.tree_walk.proofs.PathLemmas.{level_low, level_few, level_grows, level_more, top_page, root_below, held_below, next_below}
+use Rattle.tree_walk.proofs.PathLemmas.{on_path}
 
 -- the same for an equal number of page levels
-pub held_by : (told : Type 0) (image : Image) (total levels n : ℕ) (pages : List HeldPage) (len : ℕ) → levels ≡ n → AreHeld told image total levels pages len → AreHeld told image total n pages len
+pub held_by : (told : Type 0) (image : Image) (total levels n : ℕ) (pages : List HeldPage) (len : ℕ) → levels ≡ n
+    → AreHeld told image total levels pages len → AreHeld told image total n pages len
 held_by told image total levels n pages len same held = λ depth within.
     let P : ℕ → Type 0 = λ l. IsHeld told image total (l - depth) (number_at pages depth) (bytes_at pages depth) in
     subst P same (held depth within)
@@ -43,10 +46,12 @@ read_keeps told told' old new reads = record {
   writes = reads.writes;
 }
 
-pub keep_on : (told told' told'' : Type 0) (old mid new : View) → KeptWalking told told' old mid → KeptWalking told' told'' mid new → KeptWalking told told'' old new
+pub keep_on : (told told' told'' : Type 0) (old mid new : View) → KeptWalking told told' old mid → KeptWalking told' told'' mid new
+    → KeptWalking told told'' old new
 keep_on told told' told'' old mid new first second = record {
   time = time_then old mid new (Now old) first.time
-      (passes_weaker mid new (Now mid) (Now old) (Quiet mid) (Quiet mid) (now_back old mid (Quiet old) first.time) (λ count quiet. quiet) second.time);
+      (passes_weaker mid new (Now mid) (Now old) (Quiet mid) (Quiet mid) (now_back old mid (Quiet old) first.time)
+      (λ count quiet. quiet) second.time);
   told = λ t. second.told (first.told t);
   was_told = λ t. first.was_told (second.was_told t);
   image = λ t. second.image (first.told t) ∙ first.image t;
@@ -93,7 +98,8 @@ pub record IsOnWay (told told' : Type 0) (old new : View) (tree : Tree) (levels 
   pub long : at < is.len
   pub links : (d : ℕ) → d < at → IsLinked is.pages.items k levels d
   pub reads : new.reads ≤ old.reads + (at + 1)
-  pub saved : (last : Key) → LeadsTo tree was.pages.items was.len last → IsAtOrAbove (parent_of k) last → IsSaved old.reads new.reads (shared_depth levels k) at was is
+  pub saved : (last : Key) → LeadsTo tree was.pages.items was.len last → IsAtOrAbove (parent_of k) last
+      → IsSaved old.reads new.reads (shared_depth levels k) at was is
 
 -- the root's page is held
 pub way_start : (told told' : Type 0) (old new : View) (tree : Tree) (levels : ℕ) (was is : Trail) (k : Key) → Reads told told' old new
@@ -118,14 +124,17 @@ way_start told told' old new tree levels was is k reads held asked reached hit s
 }
 
 -- a link stays where the pages above stay
-link_stays : (old new : List HeldPage) (k : Key) (levels at d : ℕ) → IsSameAbove (at + 1) old new → d < at → IsLinked old k levels d → IsLinked new k levels d
+link_stays : (old new : List HeldPage) (k : Key) (levels at d : ℕ) → IsSameAbove (at + 1) old new → d < at → IsLinked old k levels d
+    → IsLinked new k levels d
 link_stays old new k levels at d same below link = record {
-  is = same.numbers (d + 1) (omega (arith, below)) ∙ link.is ∙ ap (λ b. child_at b (path_child k (levels - d))) (sym (same.bytes d (omega (arith, below))));
+  is = same.numbers (d + 1) (omega (arith, below)) ∙ link.is
+      ∙ ap (λ b. child_at b (path_child k (levels - d))) (sym (same.bytes d (omega (arith, below))));
   there = λ none. link.there (sym (same.numbers (d + 1) (omega (arith, below))) ∙ none);
 }
 
 -- a link on the way to the key asked last is one on the way to the key
-link_shared : (tree : Tree) (levels len : ℕ) (pages : List HeldPage) (k last : Key) (at : ℕ) → levels ≡ page_levels tree.slots → LeadsTo tree pages len last → IsAtOrAbove (parent_of k) last
+link_shared : (tree : Tree) (levels len : ℕ) (pages : List HeldPage) (k last : Key) (at : ℕ) → levels ≡ page_levels tree.slots
+    → LeadsTo tree pages len last → IsAtOrAbove (parent_of k) last
     → at < shared_depth levels k → IsLinked pages k levels at
 link_shared tree levels len pages k last at is leads above deep =
     let lower : page_level last.level ≤ page_level (suc k.level) = level_more last.level (suc k.level) above.higher in
@@ -137,15 +146,18 @@ link_shared tree levels len pages k last at is leads above deep =
       there = here.there;
     }
 
-shared_long : (tree : Tree) (levels len : ℕ) (pages : List HeldPage) (k last : Key) (at : ℕ) → levels ≡ page_levels tree.slots → LeadsTo tree pages len last → IsAtOrAbove (parent_of k) last
+shared_long : (tree : Tree) (levels len : ℕ) (pages : List HeldPage) (k last : Key) (at : ℕ) → levels ≡ page_levels tree.slots
+    → LeadsTo tree pages len last → IsAtOrAbove (parent_of k) last
     → at < shared_depth levels k → at + 1 < len
 shared_long tree levels len pages k last at is leads above deep =
     let lower : page_level last.level ≤ page_level (suc k.level) = level_more last.level (suc k.level) above.higher in
     omega (arith, deep, lower, is, leads.long)
 
 -- what a step makes of the reads saved
-saved_on : (tree : Tree) (levels before mid now : ℕ) (was half is : Trail) (k last : Key) (at : ℕ) → levels ≡ page_levels tree.slots → LeadsTo tree was.pages.items was.len last → IsAtOrAbove (parent_of k) last
-    → now ≤ mid + 1 → (at + 1 < half.len → IsLinked half.pages.items k levels at → now ≡ mid) → (at + 1 < half.len → IsLinked half.pages.items k levels at → is ≡ half)
+saved_on : (tree : Tree) (levels before mid now : ℕ) (was half is : Trail) (k last : Key) (at : ℕ) → levels ≡ page_levels tree.slots
+    → LeadsTo tree was.pages.items was.len last → IsAtOrAbove (parent_of k) last
+    → now ≤ mid + 1 → (at + 1 < half.len → IsLinked half.pages.items k levels at → now ≡ mid)
+    → (at + 1 < half.len → IsLinked half.pages.items k levels at → is ≡ half)
     → IsSaved before mid (shared_depth levels k) at was half → IsSaved before now (shared_depth levels k) (at + 1) was is
 saved_on tree levels before mid now was half is k last at same leads above one hit still saved =
     let linked : at < shared_depth levels k → IsLinked half.pages.items k levels at = λ deep.
@@ -165,10 +177,13 @@ saved_on tree levels before mid now was half is k last at same leads above one h
     }
 
 -- one page more
-pub way_on : (told told' told'' : Type 0) (old mid new : View) (tree : Tree) (levels : ℕ) (was half is : Trail) (k : Key) (at : ℕ) → levels ≡ page_levels tree.slots
-    → IsOnWay told told' old mid tree levels was half k at → Reads told' told'' mid new → AreHeld told'' new.image new.size levels is.pages.items is.len → is.asked ≡ half.asked
+pub way_on : (told told' told'' : Type 0) (old mid new : View) (tree : Tree) (levels : ℕ) (was half is : Trail) (k : Key) (at : ℕ)
+    → levels ≡ page_levels tree.slots
+    → IsOnWay told told' old mid tree levels was half k at → Reads told' told'' mid new
+    → AreHeld told'' new.image new.size levels is.pages.items is.len → is.asked ≡ half.asked
     → IsSameAbove (at + 1) half.pages.items is.pages.items → at + 1 < is.len → IsLinked is.pages.items k levels at
-    → (at + 1 < half.len → IsLinked half.pages.items k levels at → new.reads ≡ mid.reads) → (at + 1 < half.len → IsLinked half.pages.items k levels at → is ≡ half)
+    → (at + 1 < half.len → IsLinked half.pages.items k levels at → new.reads ≡ mid.reads)
+    → (at + 1 < half.len → IsLinked half.pages.items k levels at → is ≡ half)
     → IsOnWay told told'' old new tree levels was is k (at + 1)
 way_on told told' told'' old mid new tree levels was half is k at same way reads held asked above long linked hit still = record {
   kept = keep_on told told' told'' old mid new way.kept (read_keeps told' told'' mid new reads);
@@ -184,48 +199,59 @@ way_on told told' told'' old mid new tree levels was half is k at same way reads
   ];
   reads = omega (arith, reads.reads.high, way.reads);
   saved = λ last leads over.
-      saved_on tree levels old.reads mid.reads new.reads was half is k last at same leads over reads.reads.high hit still (way.saved last leads over);
+      saved_on tree levels old.reads mid.reads new.reads was half is k last at same leads over reads.reads.high hit still
+      (way.saved last leads over);
 }
 
 -- the end of the way
-pub way_leads : (told told' : Type 0) (old new : View) (tree : Tree) (levels : ℕ) (was is : Trail) (k : Key) (at : ℕ) → levels ≡ page_levels tree.slots → IsNode (height tree.slots) k
+pub way_leads : (told told' : Type 0) (old new : View) (tree : Tree) (levels : ℕ) (was is : Trail) (k : Key) (at : ℕ)
+    → levels ≡ page_levels tree.slots → IsNode (height tree.slots) k
     → at ≡ levels - page_level k.level → IsOnWay told told' old new tree levels was is k at → LeadsTo tree is.pages.items is.len k
 way_leads told told' old new tree levels was is k at same node depth way = record {
   node = node;
   long = omega (arith, same, depth, way.long);
   root = way.root;
-  links = λ d below. let P : ℕ → Type 0 = λ n. IsLinked is.pages.items k n d in subst P same (way.links d (omega (arith, below, same, depth)));
+  links = λ d below. let P : ℕ → Type 0 = λ n. IsLinked is.pages.items k n d in
+      subst P same (way.links d (omega (arith, below, same, depth)));
 }
 
 -- the reads in tree order
-pub order_reads : (told told' : Type 0) (old new : View) (tree : Tree) (levels : ℕ) (was is : Trail) (k last : Key) (at : ℕ) → levels ≡ page_levels tree.slots
-    → at ≡ levels - page_level k.level → IsOnWay told told' old new tree levels was is k at → LeadsTo tree was.pages.items was.len last → MayFollow (height tree.slots) (Some last) k
+pub order_reads : (told told' : Type 0) (old new : View) (tree : Tree) (levels : ℕ) (was is : Trail) (k last : Key) (at : ℕ)
+    → levels ≡ page_levels tree.slots
+    → at ≡ levels - page_level k.level → IsOnWay told told' old new tree levels was is k at → LeadsTo tree was.pages.items was.len last
+    → MayFollow (height tree.slots) (Some last) k
     → new.reads ≤ old.reads + 1
 order_reads told told' old new tree levels was is k last at same depth way leads (inl top) =
     omega (arith, way.reads, depth, same, top_page k.level (page_levels tree.slots) top)
 order_reads told told' old new tree levels was is k last at same depth way leads (inr above) =
     (way.saved last leads above).one (omega (arith, depth, level_grows k.level))
 
-pub top_reads : (told told' : Type 0) (old new : View) (tree : Tree) (levels : ℕ) (was is : Trail) (k : Key) (at : ℕ) → levels ≡ page_levels tree.slots
-    → at ≡ levels - page_level k.level → IsOnWay told told' old new tree levels was is k at → k.level ≡ height tree.slots → new.reads ≤ old.reads + 1
+pub top_reads : (told told' : Type 0) (old new : View) (tree : Tree) (levels : ℕ) (was is : Trail) (k : Key) (at : ℕ)
+    → levels ≡ page_levels tree.slots
+    → at ≡ levels - page_level k.level → IsOnWay told told' old new tree levels was is k at → k.level ≡ height tree.slots
+    → new.reads ≤ old.reads + 1
 top_reads told told' old new tree levels was is k at same depth way top =
     omega (arith, way.reads, depth, same, top_page k.level (page_levels tree.slots) top)
 
 -- the same after a step that failed
-pub order_reads_failed : (told told' : Type 0) (old mid : View) (new : ℕ) (tree : Tree) (levels : ℕ) (was is : Trail) (k last : Key) (at : ℕ) → levels ≡ page_levels tree.slots
-    → at < levels - page_level k.level → IsOnWay told told' old mid tree levels was is k at → new ≤ mid.reads + 1 → LeadsTo tree was.pages.items was.len last → MayFollow (height tree.slots) (Some last) k
+pub order_reads_failed : (told told' : Type 0) (old mid : View) (new : ℕ) (tree : Tree) (levels : ℕ) (was is : Trail) (k last : Key)
+    (at : ℕ) → levels ≡ page_levels tree.slots
+    → at < levels - page_level k.level → IsOnWay told told' old mid tree levels was is k at → new ≤ mid.reads + 1
+    → LeadsTo tree was.pages.items was.len last → MayFollow (height tree.slots) (Some last) k
     → new ≤ old.reads + 1
 order_reads_failed told told' old mid new tree levels was is k last at same deep way one leads (inl top) =
     absurd (omega (arith, deep, same, top_page k.level (page_levels tree.slots) top))
 order_reads_failed told told' old mid new tree levels was is k last at same deep way one leads (inr above) =
     omega (arith, one, (way.saved last leads above).none (omega (arith, deep, level_grows k.level)))
 
-pub top_reads_failed : (levels new old at : ℕ) (tree : Tree) (k : Key) → levels ≡ page_levels tree.slots → at < levels - page_level k.level → k.level ≡ height tree.slots → new ≤ old + 1
+pub top_reads_failed : (levels new old at : ℕ) (tree : Tree) (k : Key) → levels ≡ page_levels tree.slots → at < levels - page_level k.level
+    → k.level ≡ height tree.slots → new ≤ old + 1
 top_reads_failed levels new old at tree k same deep top =
     absurd (omega (arith, deep, same, top_page k.level (page_levels tree.slots) top))
 
 -- why the root's page wasn't held
-pub root_bad : (told : Type 0) (old new : View) (tree : Tree) (k : Key) (levels : ℕ) (e : NodeError) → levels ≡ page_levels tree.slots → IsNode (height tree.slots) k → tree.root < old.size
+pub root_bad : (told : Type 0) (old new : View) (tree : Tree) (k : Key) (levels : ℕ) (e : NodeError) → levels ≡ page_levels tree.slots
+    → IsNode (height tree.slots) k → tree.root < old.size
     → IsHoldCause told old new tree.root (levels - 0) e → IsCauseOf told old new tree k e
 root_bad told old new tree k levels DiskFault same node low cause = cause
 root_bad told old new tree k levels (Damaged page) same node low cause =
@@ -249,8 +275,10 @@ risen_since old mid new same (inl risen) = inl (omega (arith, same, risen))
 risen_since old mid new same (inr last) = inr (omega (arith, same, last.0), omega (arith, same, last.1))
 
 -- a page on the way and a bad one below it
-bad_here : (told told' : Type 0) (old mid : View) (tree : Tree) (levels : ℕ) (was is : Trail) (k : Key) (at page : ℕ) → levels ≡ page_levels tree.slots → at < levels - page_level k.level
-    → IsOnWay told told' old mid tree levels was is k at → told → IsBadStep mid is.pages.items k levels at page → IsBadOnPath old tree k page
+bad_here : (told told' : Type 0) (old mid : View) (tree : Tree) (levels : ℕ) (was is : Trail) (k : Key) (at page : ℕ)
+    → levels ≡ page_levels tree.slots → at < levels - page_level k.level
+    → IsOnWay told told' old mid tree levels was is k at → told → IsBadStep mid is.pages.items k levels at page
+    → IsBadOnPath old tree k page
 bad_here told told' old mid tree levels was is k at page same deep way tells (inl bad) =
     let pages = is.pages.items in
     let number : ℕ = number_at pages at in
@@ -259,7 +287,8 @@ bad_here told told' old mid tree levels was is k at page same deep way tells (in
     let bytes : bytes_at pages at ≡ old.image number = held.as_told (way.kept.told tells) ∙ ap (λ (i : Image). i number) image in
     let low : k.level ≤ 7 * (levels - at) = level_low k.level (levels - at) (omega (arith, deep)) in
     let there : page_below mid.image tree.root at (path_index k (levels - at)) ≡ Some number =
-    held_below told' mid.image mid.size tree.root levels pages is.len k at way.held way.root way.links way.long (omega (arith, deep)) low (way.kept.told tells) in
+    held_below told' mid.image mid.size tree.root levels pages is.len k at way.held way.root way.links way.long (omega (arith, deep)) low
+    (way.kept.told tells) in
     let P : List ℕ → Type 0 = λ b. NamesNone old.size k (levels - at) b in
     let none : P (bytes_at pages at) = record {
       keeps = held.keeps;
@@ -286,10 +315,12 @@ bad_here told told' old mid tree levels was is k at page same deep way tells (in
     let low : k.level ≤ 7 * (levels - at) = level_low k.level (levels - at) (omega (arith, deep)) in
     let lower : k.level ≤ 7 * (levels - (at + 1)) = level_low k.level (levels - (at + 1)) (omega (arith, deep)) in
     let there : page_below mid.image tree.root at (path_index k (levels - at)) ≡ Some number =
-    held_below told' mid.image mid.size tree.root levels pages is.len k at way.held way.root way.links way.long (omega (arith, deep)) low (way.kept.told tells) in
+    held_below told' mid.image mid.size tree.root levels pages is.len k at way.held way.root way.links way.long (omega (arith, deep)) low
+    (way.kept.told tells) in
     let there' : page_below old.image tree.root at (path_index k (levels - at)) ≡ Some number =
     ap (λ (i : Image). page_below i tree.root at (path_index k (levels - at))) (sym image) ∙ there in
-    let next : page ≡ child_at (old.image number) (path_child k (levels - at)) = bad.1 ∙ ap (λ b. child_at b (path_child k (levels - at))) bytes in
+    let next : page ≡ child_at (old.image number) (path_child k (levels - at)) = bad.1
+    ∙ ap (λ b. child_at b (path_child k (levels - at))) bytes in
     let some : child_at (old.image number) (path_child k (levels - at)) ≢ 0 = λ none. bad.0 (sym bad.1 ∙ next ∙ none) in
     let up : levels - at ≡ suc (levels - (at + 1)) = omega (arith, deep) in
     let S : ℕ → Type 0 = λ n. page_below old.image tree.root at (path_index k n) ≡ Some number in
@@ -307,10 +338,16 @@ bad_here told told' old mid tree levels was is k at page same deep way tells (in
     }
 
 -- why a page on the way wasn't held
-pub way_bad : (told told' : Type 0) (old mid new : View) (tree : Tree) (levels : ℕ) (was is : Trail) (k : Key) (at : ℕ) (e : NodeError) → levels ≡ page_levels tree.slots → at < levels - page_level k.level
-    → IsOnWay told told' old mid tree levels was is k at → mid.faults ≡ old.faults → IsStepCause told' mid new is.pages.items k levels at e → IsCauseOf told old new tree k e
-way_bad told told' old mid new tree levels was is k at DiskFault same deep way quiet cause = risen_since old.faults mid.faults new.faults quiet cause
-way_bad told told' old mid new tree levels was is k at (Damaged page) same deep way quiet cause =
-    (omega (arith, cause.0, way.kept.size), λ tells. bad_here told told' old mid tree levels was is k at page same deep way tells (cause.1 (way.kept.told tells)))
+pub way_bad : (told told' : Type 0) (old mid new : View) (tree : Tree) (levels : ℕ) (was is : Trail) (k : Key) (at : ℕ) (e : NodeError)
+    → levels ≡ page_levels tree.slots → at < levels - page_level k.level
+    → IsOnWay told told' old mid tree levels was is k at → mid.faults ≡ old.faults → IsStepCause told' mid new is.pages.items k levels at e
+    → IsCauseOf told old new tree k e
+way_bad told told' old mid new tree levels was is k at DiskFault same deep way quiet cause = risen_since old.faults mid.faults new.faults
+    quiet cause
+way_bad told told' old mid new tree levels was is k at (Damaged page) same deep way quiet cause = (
+  omega (arith, cause.0, way.kept.size),
+  λ tells. bad_here told told' old mid tree levels was is k at page same deep way tells
+      (cause.1 (way.kept.told tells)),
+)
 way_bad told told' old mid new tree levels was is k at (Missing key) same deep way quiet cause = cause
 way_bad told told' old mid new tree levels was is k at (BadCoefficient key) same deep way quiet cause = cause

@@ -59,7 +59,14 @@ pub record Ground : Type 1 where
   pub tree : Tree
 
 abbrev pub ground : Type 0 → View → View → Superblock → Tree → Ground
-ground told pages under superblock tree = record { told = told; view = space_view superblock pages; count = pages.size; under = under; superblock = superblock; tree = tree }
+ground told pages under superblock tree = record {
+  told = told;
+  view = space_view superblock pages;
+  count = pages.size;
+  under = under;
+  superblock = superblock;
+  tree = tree;
+}
 
 abbrev pub paged_view : Ground → Trail → NodesView
 paged_view at trail = record {
@@ -118,7 +125,8 @@ pages_keep_on old mid new first second = record {
   superblock = second.superblock ∙ first.superblock;
   goes_on = goes_then old.under mid.under new.under first.goes_on second.goes_on;
   time = time_then old.view mid.view new.view (Now old.view) first.time
-      (passes_weaker mid.view new.view (Now mid.view) (Now old.view) (Quiet mid.view) (Quiet mid.view) (now_back old.view mid.view (Quiet old.view) first.time) (λ count quiet. quiet) second.time);
+      (passes_weaker mid.view new.view (Now mid.view) (Now old.view) (Quiet mid.view) (Quiet mid.view)
+      (now_back old.view mid.view (Quiet old.view) first.time) (λ count quiet. quiet) second.time);
   told = λ t. second.told (first.told t);
   was_told = λ t. first.was_told (second.was_told t);
   image = λ t. second.image (first.told t) ∙ first.image t;
@@ -131,7 +139,8 @@ pages_keep_on old mid new first second = record {
 }
 
 -- the errors that may come are those of the same tree and pages
-same_error : (told told' : Type 0) (old new : View) (tree tree' : Tree) (e : NodeError) → (told' → told) → (told' → new.image ≡ old.image) → new.size ≡ old.size → tree' ≡ tree
+same_error : (told told' : Type 0) (old new : View) (tree tree' : Tree) (e : NodeError) → (told' → told) → (told' → new.image ≡ old.image)
+    → new.size ≡ old.size → tree' ≡ tree
     → IsPageError told old tree e → IsPageError told' new tree' e
 same_error told told' old new tree tree' DiskFault back image size same bad = bad
 same_error told told' old new tree tree' (Damaged page) back image size same (low, bad) = (
@@ -151,7 +160,10 @@ pages_stay old new trail trail' kept = record {
   root = ap (λ (one : Tree). one.span) kept.tree;
   tells = kept.told;
   has_told = kept.was_told;
-  told = λ t. ap (λ (one : Tree). told_by_pages new.view.image one) kept.tree ∙ ap (λ (pages : Image). told_by_pages pages old.tree) (kept.image t);
-  bad = λ e. same_error old.told new.told old.view new.view old.tree new.tree e kept.was_told (λ t. kept.image (kept.was_told t)) kept.size kept.tree;
-  was_bad = λ e. same_error new.told old.told new.view old.view new.tree old.tree e kept.told (λ t. sym (kept.image t)) (sym kept.size) (sym kept.tree);
+  told = λ t. ap (λ (one : Tree). told_by_pages new.view.image one) kept.tree
+      ∙ ap (λ (pages : Image). told_by_pages pages old.tree) (kept.image t);
+  bad = λ e. same_error old.told new.told old.view new.view old.tree new.tree e kept.was_told
+      (λ t. kept.image (kept.was_told t)) kept.size kept.tree;
+  was_bad = λ e. same_error new.told old.told new.view old.view new.tree old.tree e kept.told (λ t. sym (kept.image t)) (sym kept.size)
+      (sym kept.tree);
 }

@@ -47,7 +47,8 @@ LeadsToAny tree pages len None = Unit {0}
 LeadsToAny tree pages len (Some k) = LeadsTo tree pages len k
 
 -- the trail was filled over this tree and these pages
-pub record IsTrailOf (tells : Type 0) (image : Image) (total : ℕ) (tree : Tree) (pages : List HeldPage) (len : ℕ) (asked : Option Key) : Type 0 where
+pub record IsTrailOf (tells : Type 0) (image : Image) (total : ℕ) (tree : Tree) (pages : List HeldPage) (len : ℕ)
+    (asked : Option Key) : Type 0 where
   pub held : AreHeld tells image total (page_levels tree.slots) pages len
   pub leads : LeadsToAny tree pages len asked
 

@@ -93,7 +93,8 @@ module _ {P : Type 0} {g : Ghosts P} where
 
   -- why the page below a depth on the way to the key wasn't held
   abbrev pub FailsToStep : NodeError → Space P g → Space P g → Trail → Key → ℕ → ℕ → Type 0
-  FailsToStep cause old new trail key levels depth = IsStepCause (shown.IsTold old) (pages old) (pages new) trail.pages.items key levels depth cause
+  FailsToStep cause old new trail key levels depth = IsStepCause (shown.IsTold old) (pages old)
+      (pages new) trail.pages.items key levels depth cause
 
   -- why the pages on the way to the key weren't found
   abbrev pub FailsOnWay : NodeError → Space P g → Space P g → Tree → Key → Type 0

@@ -38,7 +38,8 @@ impl<P: Pages> Nodes for PagedNodes<P> {
 
     ghost keeps_itself = { λ nodes. pages_keep (walk.under nodes.space nodes.tree) };
 
-    ghost keeps_on = { λ old between new. pages_keep_on (walk.under old.space old.tree) (walk.under between.space between.tree) (walk.under new.space new.tree) };
+    ghost keeps_on = { λ old between new. pages_keep_on (walk.under old.space old.tree) (walk.under between.space between.tree)
+        (walk.under new.space new.tree) };
 
     ghost keeps_same = { λ old new. pages_stay (walk.under old.space old.tree) (walk.under new.space new.tree) old.trail new.trail };
 }

@@ -53,14 +53,16 @@ once_not c o interval n e once =
     (once.0, once.1, not_false (compares c once.0 n) (sym (compares-opposite c once.0 n) ∙ ap (λ d. compares d once.0 n) (sym e) ∙ once.2))
 
 -- the same of equal ends and an equal number
-pub always_same : (c : Comparison) (low' high' n' low high n : ℤ) (b : Bool) → low' ≡ low → high' ≡ high → n' ≡ n → Always c (low', high') n' b → Always c (low, high) n b
+pub always_same : (c : Comparison) (low' high' n' low high n : ℤ) (b : Bool) → low' ≡ low → high' ≡ high → n' ≡ n
+    → Always c (low', high') n' b → Always c (low, high) n b
 always_same c low' high' n' low high n b el eh en always =
     let P : ℤ → Type 0 = λ x. Always c (x, high') n' b in
     let Q : ℤ → Type 0 = λ x. Always c (low, x) n' b in
     let R : ℤ → Type 0 = λ x. Always c (low, high) x b in
     subst R en (subst Q eh (subst P el always))
 
-pub once_same : (c : Comparison) (low' high' n' low high n : ℤ) (b : Bool) → low' ≡ low → high' ≡ high → n' ≡ n → Once c (low', high') n' b → Once c (low, high) n b
+pub once_same : (c : Comparison) (low' high' n' low high n : ℤ) (b : Bool) → low' ≡ low → high' ≡ high → n' ≡ n → Once c (low', high') n' b
+    → Once c (low, high) n b
 once_same c low' high' n' low high n b el eh en once =
     let P : ℤ → Type 0 = λ x. Once c (x, high') n' b in
     let Q : ℤ → Type 0 = λ x. Once c (low, x) n' b in
@@ -113,7 +115,8 @@ between : (x low high n : ℤ) → n ≡ low → n ≡ high → low ≤ℤ x →
 between x low high n is_low is_high above below = omega (arith, ints)
 
 -- tests of the machine's numbers
-pub plain : (test : ℤ → ℤ → Bool) (a b : ℤ) (v : Bool) → SFits w128 a → SFits w128 b → test (to_z w128 (of_z w128 a)) (to_z w128 (of_z w128 b)) ≡ v → test a b ≡ v
+pub plain : (test : ℤ → ℤ → Bool) (a b : ℤ) (v : Bool) → SFits w128 a → SFits w128 b
+    → test (to_z w128 (of_z w128 a)) (to_z w128 (of_z w128 b)) ≡ v → test a b ≡ v
 plain test a b v fits_a fits_b is =
     sym (ap (λ x. test x (to_z w128 (of_z w128 b))) (to_z-of_z w128 a fits_a) ∙ ap (λ x. test a x) (to_z-of_z w128 b fits_b)) ∙ is
 
@@ -130,17 +133,21 @@ plain_other a b is = plain_apart a b (λ same. clash (eq-eqb (of_z w128 a) (of_z
     clash : eqb (of_z w128 a) (of_z w128 b) ≡ true → ⊥
     clash same = absurd (cc (same, is))
 
-pub equal_at : (x low high n : ℤ) → SFits w128 low → SFits w128 high → SFits w128 n → of_z w128 n ≡ of_z w128 low → eqb (of_z w128 n) (of_z w128 high) ≡ true
+pub equal_at : (x low high n : ℤ) → SFits w128 low → SFits w128 high → SFits w128 n → of_z w128 n ≡ of_z w128 low
+    → eqb (of_z w128 n) (of_z w128 high) ≡ true
     → low ≤ℤ x → x ≤ℤ high → int_eq x n ≡ true
 equal_at x low high n fits_low fits_high fits_n is_low is_high above below =
-    (Decides-int_eq x n).1 (between x low high n (plain_same n low fits_n fits_low is_low) (plain_same n high fits_n fits_high (eqb-true (of_z w128 n) (of_z w128 high) is_high)) above below)
+    (Decides-int_eq x n).1 (between x low high n (plain_same n low fits_n fits_low is_low)
+    (plain_same n high fits_n fits_high (eqb-true (of_z w128 n) (of_z w128 high) is_high)) above below)
 
 -- the answers of a comparison that is this one
 pub always_is : (c k : Comparison) (low high n : ℤ) → c ≡ k → Always k (low, high) n true → Always c (low, high) n true
 always_is c k low high n is always = let P : Comparison → Type 0 = λ d. Always d (low, high) n true in subst P (sym is) always
 
 pub once_low : (c k : Comparison) (low high n : ℤ) → c ≡ k → low ≤ℤ high → compares k low n ≡ false → Once c (low, high) n false
-once_low c k low high n is some not_there = let P : Comparison → Type 0 = λ d. Once d (low, high) n false in subst P (sym is) (low, (same_end low, some), not_there)
+once_low c k low high n is some not_there = let P : Comparison → Type 0 = λ d. Once d (low, high) n false in
+    subst P (sym is) (low, (same_end low, some), not_there)
 
 pub once_high : (c k : Comparison) (low high n : ℤ) → c ≡ k → low ≤ℤ high → compares k high n ≡ false → Once c (low, high) n false
-once_high c k low high n is some not_there = let P : Comparison → Type 0 = λ d. Once d (low, high) n false in subst P (sym is) (high, (some, same_end high), not_there)
+once_high c k low high n is some not_there = let P : Comparison → Type 0 = λ d. Once d (low, high) n false in
+    subst P (sym is) (high, (some, same_end high), not_there)

@@ -1,19 +1,23 @@
 -- Taking the tokens of a phrase, one by one, gives the steps of its expression.
-use Rattle.std.proofs.Common.{◌≡◌, ℕ, suc, ◌+◌, ◌<◌, true, List, [], ◌∷◌, ◌++◌, Option, Some, None, refl, ap, ◌∙◌, append_assoc, arith, nat_lt, if◌then◌else◌}
+use Rattle.std.proofs.Common.{◌≡◌, ℕ, suc, ◌+◌, ◌<◌, true, List, [], ◌∷◌, ◌++◌, Option, Some, None, refl, ap, ◌∙◌, append_assoc, arith}
+use Rattle.std.proofs.Common.{nat_lt, if◌then◌else◌}
 use Rattle.std.specs.Option.{option_and_then}
 use Rattle.std.proofs.lemmas.Option.{same_Some}
 use Rattle.std.proofs.lemmas.Bool.Decides.{nat_tests}
 use Rattle.value_filter.specs.declared.steps.Step.{Step}
 use Rattle.value_filter.specs.declared.steps.Step.TheVariants.{Test, Not, And, Or}
 use Rattle.value_filter.specs.declared.tokens.Token.{Token}
-use Rattle.value_filter.specs.declared.tokens.Token.TheVariants.{Subject as SubjectToken, Sign, Number, AndWord, OrWord, NotWord, Open, Close}
+use Rattle.value_filter.specs.declared.tokens.Token.TheVariants.{Subject as SubjectToken, Sign, Number, AndWord, OrWord, NotWord, Open}
+use Rattle.value_filter.specs.declared.tokens.Token.TheVariants.{Close}
 use Rattle.value_filter.specs.declared.frames.Frame.{Frame}
 use Rattle.value_filter.specs.declared.frames.Frame.TheVariants.{Disjunct, Conjunct, Negation, Parenthesis}
 use Rattle.value_filter.specs.declared.parser.Phase.TheVariants.{AwaitsOperand, HasOperand}
 use Rattle.value_filter.specs.Expressions.{Expression}
 use Rattle.value_filter.specs.Steps.{postfix}
-use Rattle.value_filter.specs.Grammar.{Phrase, Disjunction, Conjunction, Operand, Derives, atom, negation, group, operand, both, conjunction, either, AreFilter}
-use Rattle.value_filter.specs.Reading.{State, opened, initial, completed, joined, opening, closed, begun, compared, numbered, continued, taken, left_over, finished}
+use Rattle.value_filter.specs.Grammar.{Phrase, Disjunction, Conjunction, Operand, Derives, atom, negation, group, operand, both}
+use Rattle.value_filter.specs.Grammar.{conjunction, either, AreFilter}
+use Rattle.value_filter.specs.Reading.{State, opened, initial, completed, joined, opening, closed, begun, compared, numbered, continued}
+use Rattle.value_filter.specs.Reading.{taken, left_over, finished}
 
 -- the state behind tokens
 abbrev pub taken_all : List Token → State → Option State
@@ -71,7 +75,8 @@ goes_step : (next : Option State) (tokens more : List Token) (to : State)
 goes_step None tokens more to again e = cc
 goes_step (Some state) tokens more to again e = again state e
 
-pub goes : (tokens more : List Token) (from to : State) → taken_all tokens from ≡ Some to → taken_all (tokens ++ more) from ≡ taken_all more to
+pub goes : (tokens more : List Token) (from to : State) → taken_all tokens from ≡ Some to
+    → taken_all (tokens ++ more) from ≡ taken_all more to
 goes [] more from to e = ap (taken_all more) (same_Some from to e)
 goes (token ∷ tokens) more from to e = goes_step (taken token from) tokens more to (λ state h. goes tokens more state to h) e
 
@@ -87,7 +92,9 @@ Completes Operand room tokens f = (frames : List Frame) (steps : List Step) → 
 Completes Conjunction room tokens f = (frames : List Frame) (steps : List Step) → opened frames + room ≡ 64 → Fits Conjunction frames
     → taken_all tokens (awaits frames steps) ≡ Some (has frames (steps ++ postfix f))
 Completes Disjunction room tokens f = (frames : List Frame) (steps : List Step) → opened frames + room ≡ 64 → Fits Disjunction frames
-    → (reached_frames : List Frame) × (reached_steps : List Step) × (taken_all tokens (awaits frames steps) ≡ Some (has reached_frames reached_steps)) × (joined reached_frames reached_steps ≡ has frames (steps ++ postfix f))
+    → (reached_frames : List Frame) × (reached_steps : List Step)
+    × (taken_all tokens (awaits frames steps) ≡ Some (has reached_frames reached_steps))
+    × (joined reached_frames reached_steps ≡ has frames (steps ++ postfix f))
 
 opens : (frame : Frame) (frames : List Frame) (steps : List Step) (room : ℕ) → opened frames + suc room ≡ 64
     → opening frame (awaits frames steps) ≡ Some (awaits (frame ∷ frames) steps)
@@ -98,7 +105,8 @@ opens frame frames steps room e =
     ap (λ b. if b then Some (awaits (frame ∷ frames) steps) else None) open_one
 
 takes-atom : (s : _) (c : _) (n : _) (frames : List Frame) (steps : List Step)
-    → taken_all (SubjectToken s ∷ (Sign c ∷ (Number n ∷ []))) (awaits frames steps) ≡ Some (completed frames (steps ++ Test (record { subject = s; comparison = c; number = n }) ∷ []))
+    → taken_all (SubjectToken s ∷ (Sign c ∷ (Number n ∷ []))) (awaits frames steps) ≡ Some
+    (completed frames (steps ++ Test (record { subject = s; comparison = c; number = n }) ∷ []))
 unfolding taken begun compared numbered
 takes-atom s c n frames steps = refl
 
@@ -127,7 +135,8 @@ takes-close : (frames to : List Frame) (steps written : List Step) → joined fr
 unfolding taken continued closed
 takes-close frames to steps written e = ap (λ (state : State). option_and_then (taken_all []) (closed state.frames state.steps)) e
 
-pub complete : {phrase : Phrase} {room : ℕ} {tokens : List Token} {f : Expression} → Derives phrase room tokens f → Completes phrase room tokens f
+pub complete : {phrase : Phrase} {room : ℕ} {tokens : List Token} {f : Expression} → Derives phrase room tokens f
+    → Completes phrase room tokens f
 unfolding completed joined
 complete (atom room s c n) = λ frames steps e. takes-atom s c n frames steps
 complete (negation room tokens f d) = λ frames steps e.
@@ -146,7 +155,8 @@ complete (both room first second f g d b) = λ frames steps e fits.
     goes first (AndWord ∷ second) (awaits frames steps) (has frames (steps ++ postfix f)) (complete d frames steps e fits)
     ∙ takes-and second frames (steps ++ postfix f)
     ∙ complete b (Conjunct ∷ frames) (steps ++ postfix f) e
-    ∙ ap (λ written. Some (has frames written)) (append_assoc (steps ++ postfix f) (postfix g) (And ∷ []) ∙ append_assoc steps (postfix f) (postfix g ++ And ∷ []))
+    ∙ ap (λ written. Some (has frames written)) (append_assoc (steps ++ postfix f) (postfix g) (And ∷ [])
+    ∙ append_assoc steps (postfix f) (postfix g ++ And ∷ []))
 complete (conjunction room tokens f d) = λ frames steps e fits.
     (frames, steps ++ postfix f, complete d frames steps e (Fits-conjunction frames fits), joined-fits frames (steps ++ postfix f) fits)
 complete (either room first second f g d b) = λ frames steps e fits.
@@ -160,7 +170,8 @@ complete (either room first second f g d b) = λ frames steps e fits.
     )
 
 -- the tokens of a filter are taken, and its steps are what is left
-pub complete_all : (tokens : List Token) (f : Expression) → AreFilter tokens f → (state : State) × (taken_all tokens initial ≡ Some state) × (finished state ≡ Some (postfix f))
+pub complete_all : (tokens : List Token) (f : Expression) → AreFilter tokens f
+    → (state : State) × (taken_all tokens initial ≡ Some state) × (finished state ≡ Some (postfix f))
 unfolding finished
 complete_all tokens f d =
     let whole = complete d [] [] refl tt in (

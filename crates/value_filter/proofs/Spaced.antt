@@ -1,5 +1,6 @@
 -- Tokens with spaces between them are the text's tokens.
-use Rattle.std.proofs.Common.{◌≡◌, ◌≢◌, ℕ, suc, ◌+◌, ◌<◌, ◌≤◌, Bool, true, false, not, ◌&&◌, ◌==◌, cond, List, [], ◌∷◌, ◌++◌, length, take, drop, get_or, refl, sym, ap, ◌∙◌, subst, arith, ℤ, pos, negsuc, codes, one-add}
+use Rattle.std.proofs.Common.{◌≡◌, ◌≢◌, ℕ, suc, ◌+◌, ◌<◌, ◌≤◌, Bool, true, false, not, ◌&&◌, ◌==◌, cond, List, [], ◌∷◌, ◌++◌, length, take}
+use Rattle.std.proofs.Common.{drop, get_or, refl, sym, ap, ◌∙◌, subst, arith, ℤ, pos, negsuc, codes, one-add}
 use Rattle.std.specs.List.{position_or_len, prefix_len, before_first}
 use Rattle.std.specs.Int.{IsInRange}
 use Rattle.std.specs.Str.Parse.{AllDigits}
@@ -13,7 +14,8 @@ use Rattle.value_filter.specs.declared.atoms.Comparison.TheVariants.{Less, LessO
 use Rattle.value_filter.specs.declared.tokens.Token.{Token}
 use Rattle.value_filter.specs.declared.tokens.Token.TheVariants.{Subject, Sign, Number, AndWord, OrWord, NotWord, Open, Close}
 use Rattle.value_filter.specs.Expressions.{Expression}
-use Rattle.value_filter.specs.Pieces.{is_space, is_word_byte, begins_long_sign, past_spaces, first_piece, next_piece, past_piece, spelling, IsShort, Begins}
+use Rattle.value_filter.specs.Pieces.{is_space, is_word_byte, begins_long_sign, past_spaces, first_piece, next_piece, past_piece, spelling}
+use Rattle.value_filter.specs.Pieces.{IsShort, Begins}
 use Rattle.value_filter.specs.Grammar.{AreFilter, IsFilter}
 use Rattle.value_filter.specs.Spacing.{AreSpaces, EndsWord, StandsApart, IsSpaced}
 
@@ -49,7 +51,8 @@ take_run (byte ∷ run) rest = ap (λ xs. byte ∷ xs) (take_run run rest)
 word_piece : (byte : ℕ) (run rest : List ℕ) → IsRun (byte ∷ run) → EndsWord rest → first_piece (byte ∷ (run ++ rest)) ≡ byte ∷ run
 unfolding first_piece
 word_piece byte run rest is ends =
-    ap (λ b. cond b (before_first (λ x. not (is_word_byte x)) (byte ∷ (run ++ rest))) (cond (begins_long_sign (byte ∷ (run ++ rest))) (take 2 (byte ∷ (run ++ rest))) (take 1 (byte ∷ (run ++ rest))))) is.0
+    ap (λ b. cond b (before_first (λ x. not (is_word_byte x)) (byte ∷ (run ++ rest)))
+    (cond (begins_long_sign (byte ∷ (run ++ rest))) (take 2 (byte ∷ (run ++ rest))) (take 1 (byte ∷ (run ++ rest))))) is.0
     ∙ ap (λ n. take n (byte ∷ (run ++ rest))) (run_length (byte ∷ run) rest is ends)
     ∙ take_run (byte ∷ run) rest
 
@@ -118,11 +121,13 @@ unfolding first_piece
 not_equal_piece rest = refl
 
 -- the piece that a token makes
-pub token_piece : (token : Token) (rest : List ℕ) → IsShort token → StandsApart token rest → first_piece (spelling token ++ rest) ≡ spelling token
+pub token_piece : (token : Token) (rest : List ℕ) → IsShort token → StandsApart token rest
+    → first_piece (spelling token ++ rest) ≡ spelling token
 token_piece (Subject Time) rest short apart = run_piece (codes "t") rest (omega arith) (refl, tt) apart
 token_piece (Subject Value) rest short apart = run_piece (codes "v") rest (omega arith) (refl, tt) apart
 token_piece (Number z) rest short apart =
-    run_piece (spelling (Number z)) rest (number_some (spelling (Number z)) z (refl, short)) (number_run (spelling (Number z)) z (refl, short)) apart
+    run_piece (spelling (Number z)) rest (number_some (spelling (Number z)) z (refl, short))
+    (number_run (spelling (Number z)) z (refl, short)) apart
 token_piece AndWord rest short apart = run_piece (codes "and") rest (omega arith) (refl, (refl, (refl, tt))) apart
 token_piece OrWord rest short apart = run_piece (codes "or") rest (omega arith) (refl, (refl, tt)) apart
 token_piece NotWord rest short apart = run_piece (codes "not") rest (omega arith) (refl, (refl, (refl, tt))) apart
@@ -169,13 +174,17 @@ blank_past [] spaces = refl
 blank_past (byte ∷ text) spaces = ap (λ b. past_spaces (b ∷ text)) spaces.0 ∙ past_space text ∙ blank_past text spaces.1
 
 -- spaced tokens are the tokens that the text begins with, and only spaces are left
-pub spaced-begins : (tokens : List Token) (text : List ℕ) → IsSpaced tokens text → (rest : List ℕ) × Begins text tokens rest × (past_spaces rest ≡ [])
+pub spaced-begins : (tokens : List Token) (text : List ℕ) → IsSpaced tokens text
+    → (rest : List ℕ) × Begins text tokens rest × (past_spaces rest ≡ [])
 spaced-begins [] text spaced = (text, refl, blank_past text spaced)
 spaced-begins (token ∷ tokens) text spaced =
     let (gap, rest, spaces, text_is, short, apart, behind) = spaced in
-    let front : past_spaces text ≡ spelling token ++ rest = ap past_spaces text_is ∙ past_gap gap (spelling token ++ rest) spaces ∙ token_front token rest short in
+    let front : past_spaces text ≡ spelling token ++ rest = ap past_spaces text_is ∙ past_gap gap (spelling token ++ rest) spaces
+    ∙ token_front token rest short in
     let piece : next_piece text ≡ spelling token = ap first_piece front ∙ token_piece token rest short apart in
-    let past : past_piece text ≡ rest = ap (λ xs. drop (length (first_piece xs)) xs) front ∙ ap (λ p. drop (length p) (spelling token ++ rest)) (token_piece token rest short apart) ∙ drop-append_seam (spelling token) rest in
+    let past : past_piece text ≡ rest = ap (λ xs. drop (length (first_piece xs)) xs) front
+    ∙ ap (λ p. drop (length p) (spelling token ++ rest)) (token_piece token rest short apart)
+    ∙ drop-append_seam (spelling token) rest in
     let tail = spaced-begins tokens rest behind in
     let P : List ℕ → Type 0 = λ xs. Begins xs tokens tail.0 in
     (tail.0, ((piece, short), subst P (sym past) tail.1), tail.2)

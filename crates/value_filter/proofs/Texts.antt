@@ -1,5 +1,6 @@
 -- What a text's tokens say of it as a whole.
-use Rattle.std.proofs.Common.{◌≡◌, ℕ, ◌+◌, ◌<◌, List, [], ◌∷◌, ◌++◌, length, drop, Option, Some, None, refl, sym, ap, ◌∙◌, subst, append_assoc, append-nil, arith, ◌⊎◌, inl, inr}
+use Rattle.std.proofs.Common.{◌≡◌, ℕ, ◌+◌, ◌<◌, List, [], ◌∷◌, ◌++◌, length, drop, Option, Some, None, refl, sym, ap, ◌∙◌, subst}
+use Rattle.std.proofs.Common.{append_assoc, append-nil, arith, ◌⊎◌, inl, inr}
 use Rattle.std.specs.Option.{option_and_then}
 use Rattle.std.proofs.lemmas.Option.{same_Some}
 use Rattle.value_filter.specs.declared.steps.Step.{Step}
@@ -96,7 +97,8 @@ reached_is : (tokens : List Token) (state : State) → taken_all tokens initial 
 reached_is tokens state e = is_reached tokens [] initial state is_initial e
 
 -- a token more is read
-pub read_more : (text rest : List ℕ) (state to : State) (token : Token) → IsRead text rest state → Spells (first_piece rest) token → taken token state ≡ Some to
+pub read_more : (text rest : List ℕ) (state to : State) (token : Token) → IsRead text rest state → Spells (first_piece rest) token
+    → taken token state ≡ Some to
     → IsRead text (past_spaces (drop (length (first_piece rest)) rest)) to
 read_more text rest state to token r s e =
     let P : List ℕ → Type 0 = λ xs. Spells (first_piece xs) token in
@@ -112,13 +114,15 @@ read_more text rest state to token r s e =
 some_left : (rest behind : List ℕ) → rest ≡ past_spaces behind → 0 < length rest → past_spaces behind ≡ [] → ⊥
 some_left rest behind here some blank = absurd (omega (arith, some, ap length here, ap length blank))
 
-place_is : (text rest behind : List ℕ) (at : ℕ) → rest ≡ past_spaces behind → at + length rest ≡ length text → at + length (past_spaces behind) ≡ length text
+place_is : (text rest behind : List ℕ) (at : ℕ) → rest ≡ past_spaces behind → at + length rest ≡ length text
+    → at + length (past_spaces behind) ≡ length text
 place_is text rest behind at here e = ap (λ n. at + n) (sym (ap length here)) ∙ e
 
 begins_some : (tokens : List Token) (state : State) → taken_all tokens initial ≡ Some state → MayBegin tokens
 begins_some tokens state e = is-may_begin state.phase state.frames state.steps tokens (reached_is tokens state e)
 
-pub stops_at_piece : (text rest : List ℕ) (state : State) (at : ℕ) → IsRead text rest state → 0 < length rest → at + length rest ≡ length text
+pub stops_at_piece : (text rest : List ℕ) (state : State) (at : ℕ) → IsRead text rest state → 0 < length rest
+    → at + length rest ≡ length text
     → ((token : Token) → Spells (first_piece rest) token → ⊥) → LeavesAt text at
 stops_at_piece text rest state at r some place none =
     record {
@@ -131,7 +135,8 @@ stops_at_piece text rest state at r some place none =
       place = place_is text rest r.behind at r.here place;
     }
 
-pub stops_at_token : (text rest : List ℕ) (state : State) (at : ℕ) (token : Token) → IsRead text rest state → 0 < length rest → at + length rest ≡ length text
+pub stops_at_token : (text rest : List ℕ) (state : State) (at : ℕ) (token : Token) → IsRead text rest state → 0 < length rest
+    → at + length rest ≡ length text
     → Spells (first_piece rest) token → taken token state ≡ None → LeavesAt text at
 stops_at_token text rest state at token r some place s none =
     record {
@@ -148,7 +153,8 @@ stops_at_token text rest state at token r some place s none =
       place = place_is text rest r.behind at r.here place;
     }
 
-pub stops_at_end : (text rest : List ℕ) (state : State) (at : ℕ) → IsRead text rest state → rest ≡ [] → at ≡ length text → finished state ≡ None → LeavesAt text at
+pub stops_at_end : (text rest : List ℕ) (state : State) (at : ℕ) → IsRead text rest state → rest ≡ [] → at ≡ length text
+    → finished state ≡ None → LeavesAt text at
 stops_at_end text rest state at r end place none =
     let blank : past_spaces r.behind ≡ [] = sym r.here ∙ end in
     record {
@@ -162,16 +168,19 @@ stops_at_end text rest state at r end place none =
     }
 
 -- the steps of a text that is read to its end
-pub finished-are_of : (text rest : List ℕ) (state : State) (steps : List Step) → IsRead text rest state → finished state ≡ Some steps → AreOfExpression steps
+pub finished-are_of : (text rest : List ℕ) (state : State) (steps : List Step) → IsRead text rest state → finished state ≡ Some steps
+    → AreOfExpression steps
 finished-are_of text rest state steps r e =
     let whole = is_finished state steps r.tokens (reached_is r.tokens state r.reached) e in
     (whole.0, ap (λ ss. rebuilt ss []) whole.2 ∙ filter-rebuilt r.tokens whole.0 whole.1)
 
-pub finished-is_filter : (text rest : List ℕ) (state : State) (steps : List Step) → IsRead text rest state → rest ≡ [] → finished state ≡ Some steps
+pub finished-is_filter : (text rest : List ℕ) (state : State) (steps : List Step) → IsRead text rest state → rest ≡ []
+    → finished state ≡ Some steps
     → IsFilter text (expression_of steps)
 finished-is_filter text rest state steps r end e =
     let whole = is_finished state steps r.tokens (reached_is r.tokens state r.reached) e in
-    let same : expression_of steps ≡ whole.0 = rebuilt-expression_of steps whole.0 (ap (λ ss. rebuilt ss []) whole.2 ∙ filter-rebuilt r.tokens whole.0 whole.1) in
+    let same : expression_of steps ≡ whole.0 = rebuilt-expression_of steps whole.0 (ap (λ ss. rebuilt ss []) whole.2
+    ∙ filter-rebuilt r.tokens whole.0 whole.1) in
     let P : Expression → Type 0 = λ f. AreFilter r.tokens f in
     record { tokens = r.tokens; rest = r.behind; begins = r.begins; blank = sym r.here ∙ end; derives = subst P (sym same) whole.1 }
 
@@ -180,7 +189,8 @@ pub finished-postfix : (text rest : List ℕ) (state : State) (steps : List Step
     → steps ≡ postfix (expression_of steps)
 finished-postfix text rest state steps r e =
     let whole = is_finished state steps r.tokens (reached_is r.tokens state r.reached) e in
-    let same : expression_of steps ≡ whole.0 = rebuilt-expression_of steps whole.0 (ap (λ ss. rebuilt ss []) whole.2 ∙ filter-rebuilt r.tokens whole.0 whole.1) in
+    let same : expression_of steps ≡ whole.0 = rebuilt-expression_of steps whole.0 (ap (λ ss. rebuilt ss []) whole.2
+    ∙ filter-rebuilt r.tokens whole.0 whole.1) in
     whole.2 ∙ ap postfix (sym same)
 
 -- a text of a filter is read to its end, and gives its steps
@@ -188,11 +198,13 @@ same_tokens : (behind : List Token) (rest blank : List ℕ) → Begins rest behi
 same_tokens [] rest blank b e = refl
 same_tokens (t ∷ behind) rest blank b e = absurd (no_token rest t e b.0)
 
-pub finished-one : (text rest : List ℕ) (state : State) (steps : List Step) → IsRead text rest state → rest ≡ [] → finished state ≡ Some steps
+pub finished-one : (text rest : List ℕ) (state : State) (steps : List Step) → IsRead text rest state → rest ≡ []
+    → finished state ≡ Some steps
     → (f : Expression) → IsFilter text f → expression_of steps ≡ f
 finished-one text rest state steps r end e f i =
     let a = goes_on r.tokens i.tokens text r.behind i.rest r.begins i.begins i.blank in
-    let same : i.tokens ≡ r.tokens = a.1 ∙ ap (λ ts. r.tokens ++ ts) (same_tokens a.0 r.behind i.rest a.2 (sym r.here ∙ end)) ∙ append-nil r.tokens in
+    let same : i.tokens ≡ r.tokens = a.1 ∙ ap (λ ts. r.tokens ++ ts) (same_tokens a.0 r.behind i.rest a.2 (sym r.here ∙ end))
+    ∙ append-nil r.tokens in
     let P : List Token → Type 0 = λ ts. AreFilter ts f in
     let whole = complete_all r.tokens f (subst P same i.derives) in
     let at : state ≡ whole.0 = same_Some state whole.0 (sym r.reached ∙ whole.1) in
@@ -200,14 +212,16 @@ finished-one text rest state steps r end e f i =
     rebuilt-expression_of steps f (ap (λ ss. rebuilt ss []) written ∙ filter-rebuilt r.tokens f (subst P same i.derives))
 
 -- what is answered where a token is refused, and at the end
-pub token_refused : (text rest : List ℕ) (state : State) (at : ℕ) (token : Token) (fault : FilterFault) → IsRead text rest state → 0 < length rest → at + length rest ≡ length text
+pub token_refused : (text rest : List ℕ) (state : State) (at : ℕ) (token : Token) (fault : FilterFault) → IsRead text rest state
+    → 0 < length rest → at + length rest ≡ length text
     → Spells (first_piece rest) token → Refuses (taken token state) at fault → RefusesText text fault
 token_refused text rest state at token NoMemory r some place s f = tt
 token_refused text rest state at token (At offset) r some place s f =
     let P : ℕ → Type 0 = λ n. LeavesAt text n in
     subst P (sym f.1) (stops_at_token text rest state at token r some place s f.0)
 
-pub end_refused : (text rest : List ℕ) (state : State) (at : ℕ) (fault : FilterFault) → IsRead text rest state → rest ≡ [] → at ≡ length text
+pub end_refused : (text rest : List ℕ) (state : State) (at : ℕ) (fault : FilterFault) → IsRead text rest state → rest ≡ []
+    → at ≡ length text
     → Refuses (finished state) at fault → RefusesText text fault
 end_refused text rest state at NoMemory r end place f = tt
 end_refused text rest state at (At offset) r end place f =
@@ -223,11 +237,13 @@ one_filter text f g i j =
     let second = complete_all i.tokens g (subst P same j.derives) in
     let at : first.0 ≡ second.0 = same_Some first.0 second.0 (sym first.1 ∙ second.1) in
     let steps : postfix f ≡ postfix g = same_Some (postfix f) (postfix g) (sym first.2 ∙ ap finished at ∙ second.2) in
-    same_Some f g (sym (filter-rebuilt i.tokens f i.derives) ∙ ap (λ ss. rebuilt ss []) steps ∙ filter-rebuilt i.tokens g (subst P same j.derives))
+    same_Some f g (sym (filter-rebuilt i.tokens f i.derives) ∙ ap (λ ss. rebuilt ss []) steps
+    ∙ filter-rebuilt i.tokens g (subst P same j.derives))
 
 -- of two beginnings of a text one goes on from the other
 both_begin : (tokens more : List Token) (text rest behind : List ℕ) → Begins text tokens rest → Begins text more behind
-    → ((next : List Token) × (more ≡ tokens ++ next) × Begins rest next behind) ⊎ ((next : List Token) × (tokens ≡ more ++ next) × Begins behind next rest)
+    → ((next : List Token) × (more ≡ tokens ++ next) × Begins rest next behind)
+    ⊎ ((next : List Token) × (tokens ≡ more ++ next) × Begins behind next rest)
 both_begin [] more text rest behind b m =
     let P : List ℕ → Type 0 = λ xs. Begins xs more behind in
     inl (more, refl, subst P b m)
@@ -242,14 +258,21 @@ both_begin (t ∷ tokens) (u ∷ more) text rest behind b m =
     ]
 
 -- what goes on from a place where the text leaves the grammar goes on by nothing
-nothing_more : (text : List ℕ) (a : ℕ) (l : LeavesAt text a) (next more : List Token) (behind : List ℕ) → more ≡ l.tokens ++ next → Begins l.rest next behind
+nothing_more : (text : List ℕ) (a : ℕ) (l : LeavesAt text a) (next more : List Token) (behind : List ℕ) → more ≡ l.tokens ++ next
+    → Begins l.rest next behind
     → MayBegin more → l.rest ≡ behind
 nothing_more text a l [] more behind m b may = b
 nothing_more text a l (t ∷ next) more behind m b may =
     let P : List Token → Type 0 = λ ts. AreFilter ts may.1 in
-    absurd (l.stops t b.0 (next ++ may.0, may.1, subst P (ap (λ ts. ts ++ may.0) m ∙ append_assoc l.tokens (t ∷ next) may.0 ∙ sym (append_assoc l.tokens (t ∷ []) (next ++ may.0))) may.2))
+    absurd (l.stops t b.0 (
+      next ++ may.0,
+      may.1,
+      subst P (ap (λ ts. ts ++ may.0) m ∙ append_assoc l.tokens (t ∷ next) may.0
+          ∙ sym (append_assoc l.tokens (t ∷ []) (next ++ may.0))) may.2,
+    ))
 
-same_offset : (text rest behind : List ℕ) (a b : ℕ) → rest ≡ behind → a + length (past_spaces rest) ≡ length text → b + length (past_spaces behind) ≡ length text → a ≡ b
+same_offset : (text rest behind : List ℕ) (a b : ℕ) → rest ≡ behind → a + length (past_spaces rest) ≡ length text
+    → b + length (past_spaces behind) ≡ length text → a ≡ b
 same_offset text rest behind a b e p q = omega (arith, ap (λ xs. length (past_spaces xs)) e, p, q)
 
 pub one_offset : (text : List ℕ) (a b : ℕ) → LeavesAt text a → LeavesAt text b → a ≡ b

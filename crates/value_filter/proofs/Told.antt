@@ -1,5 +1,6 @@
 -- Telling steps on a box gives the answers of their expressions.
-use Rattle.std.proofs.Common.{◌≡◌, ℕ, suc, ◌+◌, ◌<◌, ◌≤◌, true, List, [], ◌∷◌, ◌++◌, length, drop, Option, Some, None, refl, sym, ap, ◌∙◌, subst, arith, nat_lt, ◌*◌, max, append_assoc, append-nil, if◌then◌else◌, get_or, add-one, drop-cons}
+use Rattle.std.proofs.Common.{◌≡◌, ℕ, suc, ◌+◌, ◌<◌, ◌≤◌, true, List, [], ◌∷◌, ◌++◌, length, drop, Option, Some, None, refl, sym, ap, ◌∙◌}
+use Rattle.std.proofs.Common.{subst, arith, nat_lt, ◌*◌, max, append_assoc, append-nil, if◌then◌else◌, get_or, add-one, drop-cons}
 use Rattle.std.proofs.lemmas.List.{drop_all}
 use Rattle.std.specs.Option.{option_and_then}
 use Rattle.std.proofs.lemmas.Option.{same_Some, cond_some}
@@ -13,9 +14,11 @@ use Rattle.value_filter.specs.Boxes.{Interval, IsAnswer, IsAtomAnswer, interval_
 use Rattle.value_filter.specs.Steps.{after_step, rebuilt, expression_of, postfix, AreOfExpression}
 use Rattle.value_filter.specs.Telling.{HasRoom, AreAnswers}
 use Rattle.value_filter.specs.declared.tokens.Token.{Token}
-use Rattle.value_filter.specs.Grammar.{Phrase, Disjunction, Conjunction, Operand, Derives, atom as compare, negation, group, operand, both, conjunction, either, AreFilter}
+use Rattle.value_filter.specs.Grammar.{Phrase, Disjunction, Conjunction, Operand, Derives, atom as compare, negation, group, operand, both}
+use Rattle.value_filter.specs.Grammar.{conjunction, either, AreFilter}
 
-pub answers-length : (pending : List Expression) (times values : Interval) (answers : List BoxAnswer) → AreAnswers pending times values answers → length answers ≡ length pending
+pub answers-length : (pending : List Expression) (times values : Interval) (answers : List BoxAnswer)
+    → AreAnswers pending times values answers → length answers ≡ length pending
 answers-length [] times values [] are = refl
 answers-length [] times values (a ∷ answers) are = absurd are
 answers-length (f ∷ pending) times values [] are = absurd are
@@ -43,7 +46,8 @@ answers_have_room step pending next times values answers are e =
     subst P (sym (answers-length pending times values answers are)) (has_room step pending next e)
 
 told_test_at : (atom : Atom) (pending next : List Expression) (times values : Interval) (answers : List BoxAnswer) (answer : BoxAnswer)
-    → IsAtomAnswer atom (interval_of atom.subject times values) answer → AreAnswers pending times values answers → after_step (Test atom) pending ≡ Some next
+    → IsAtomAnswer atom (interval_of atom.subject times values) answer → AreAnswers pending times values answers
+    → after_step (Test atom) pending ≡ Some next
     → AreAnswers next times values (answer ∷ answers)
 unfolding after_step
 told_test_at atom pending next times values answers answer is are e =
@@ -64,7 +68,8 @@ told_not_at (f ∷ pending) next times values (a ∷ answers) new are e h =
 
 told_and_at : (pending next : List Expression) (times values : Interval) (answers new : List BoxAnswer)
     → AreAnswers pending times values answers → after_step And pending ≡ Some next
-    → ((a b : BoxAnswer) (below : List BoxAnswer) → answers ≡ b ∷ (a ∷ below) → new ≡ both_of a b ∷ below) → AreAnswers next times values new
+    → ((a b : BoxAnswer) (below : List BoxAnswer) → answers ≡ b ∷ (a ∷ below) → new ≡ both_of a b ∷ below)
+    → AreAnswers next times values new
 unfolding after_step
 told_and_at [] next times values answers new are e h = cc
 told_and_at (g ∷ []) next times values answers new are e h = cc
@@ -77,7 +82,8 @@ told_and_at (g ∷ (f ∷ pending)) next times values (b ∷ (a ∷ answers)) ne
 
 told_or_at : (pending next : List Expression) (times values : Interval) (answers new : List BoxAnswer)
     → AreAnswers pending times values answers → after_step Or pending ≡ Some next
-    → ((a b : BoxAnswer) (below : List BoxAnswer) → answers ≡ b ∷ (a ∷ below) → new ≡ either_of a b ∷ below) → AreAnswers next times values new
+    → ((a b : BoxAnswer) (below : List BoxAnswer) → answers ≡ b ∷ (a ∷ below) → new ≡ either_of a b ∷ below)
+    → AreAnswers next times values new
 unfolding after_step
 told_or_at [] next times values answers new are e h = cc
 told_or_at (g ∷ []) next times values answers new are e h = cc
@@ -88,12 +94,15 @@ told_or_at (g ∷ (f ∷ pending)) next times values (b ∷ (a ∷ answers)) new
     let Q : List BoxAnswer → Type 0 = λ xs. AreAnswers (Either f g ∷ pending) times values xs in
     subst P (same_Some (Either f g ∷ pending) next e) (subst Q (sym (h a b answers refl)) ((a, b, are.1.0, are.0, refl), are.1.1))
 
-pub told_test : (step : Step) (atom : Atom) (pending next : List Expression) (times values : Interval) (answers new : List BoxAnswer) (answer : BoxAnswer) → step ≡ Test atom → new ≡ answer ∷ answers
-    → IsAtomAnswer atom (interval_of atom.subject times values) answer → AreAnswers pending times values answers → after_step step pending ≡ Some next
+pub told_test : (step : Step) (atom : Atom) (pending next : List Expression) (times values : Interval) (answers new : List BoxAnswer)
+    (answer : BoxAnswer) → step ≡ Test atom → new ≡ answer ∷ answers
+    → IsAtomAnswer atom (interval_of atom.subject times values) answer → AreAnswers pending times values answers
+    → after_step step pending ≡ Some next
     → AreAnswers next times values new
 told_test step atom pending next times values answers new answer is pushed holds are e =
     let P : List BoxAnswer → Type 0 = λ xs. AreAnswers next times values xs in
-    subst P (sym pushed) (told_test_at atom pending next times values answers answer holds are (ap (λ s. after_step s pending) (sym is) ∙ e))
+    subst P (sym pushed) (told_test_at atom pending next times values answers answer holds are (ap (λ s. after_step s pending) (sym is)
+    ∙ e))
 
 pub told_not : (step : Step) (pending next : List Expression) (times values : Interval) (answers new : List BoxAnswer) → step ≡ Not
     → AreAnswers pending times values answers → after_step step pending ≡ Some next
@@ -103,13 +112,15 @@ told_not step pending next times values answers new is are e h =
 
 pub told_and : (step : Step) (pending next : List Expression) (times values : Interval) (answers new : List BoxAnswer) → step ≡ And
     → AreAnswers pending times values answers → after_step step pending ≡ Some next
-    → ((a b : BoxAnswer) (below : List BoxAnswer) → answers ≡ b ∷ (a ∷ below) → new ≡ both_of a b ∷ below) → AreAnswers next times values new
+    → ((a b : BoxAnswer) (below : List BoxAnswer) → answers ≡ b ∷ (a ∷ below) → new ≡ both_of a b ∷ below)
+    → AreAnswers next times values new
 told_and step pending next times values answers new is are e h =
     told_and_at pending next times values answers new are (ap (λ s. after_step s pending) (sym is) ∙ e) h
 
 pub told_or : (step : Step) (pending next : List Expression) (times values : Interval) (answers new : List BoxAnswer) → step ≡ Or
     → AreAnswers pending times values answers → after_step step pending ≡ Some next
-    → ((a b : BoxAnswer) (below : List BoxAnswer) → answers ≡ b ∷ (a ∷ below) → new ≡ either_of a b ∷ below) → AreAnswers next times values new
+    → ((a b : BoxAnswer) (below : List BoxAnswer) → answers ≡ b ∷ (a ∷ below) → new ≡ either_of a b ∷ below)
+    → AreAnswers next times values new
 told_or step pending next times values answers new is are e h =
     told_or_at pending next times values answers new are (ap (λ s. after_step s pending) (sym is) ∙ e) h
 
@@ -124,7 +135,8 @@ pub rebuilt-next : (step : Step) (steps : List Step) (pending : List Expression)
 rebuilt-next step steps pending f e = rebuilt-step (after_step step pending) steps f e
 
 -- behind the last step one answer is left
-pub last_answer : (pending : List Expression) (f : Expression) (times values : Interval) (answers : List BoxAnswer) (answer : BoxAnswer) (below : List BoxAnswer)
+pub last_answer : (pending : List Expression) (f : Expression) (times values : Interval) (answers : List BoxAnswer) (answer : BoxAnswer)
+    (below : List BoxAnswer)
     → rebuilt [] pending ≡ Some f → AreAnswers pending times values answers → answers ≡ answer ∷ below → IsAnswer f times values answer
 last_answer [] f times values answers answer below e are is = cc
 last_answer (g ∷ (h ∷ pending)) f times values answers answer below e are is = cc
@@ -159,7 +171,8 @@ room_for_one : (pending : List Expression) → length pending + 1 ≤ 131 → na
 room_for_one pending room = grind (arith, nat_tests)
 
 -- the steps of an expression give it back, where there is room for them
-pub rebuilt-postfix : (f : Expression) (steps : List Step) (pending : List Expression) → length pending + need f ≤ 131 → rebuilt (postfix f ++ steps) pending ≡ rebuilt steps (f ∷ pending)
+pub rebuilt-postfix : (f : Expression) (steps : List Step) (pending : List Expression) → length pending + need f ≤ 131
+    → rebuilt (postfix f ++ steps) pending ≡ rebuilt steps (f ∷ pending)
 unfolding after_step
 rebuilt-postfix (Compare atom) steps pending room =
     ap (λ b. option_and_then (rebuilt steps) (if b then Some (Compare atom ∷ pending) else None)) (room_for_one pending room)
@@ -167,11 +180,13 @@ rebuilt-postfix (Negate f) steps pending room =
     ap (λ ss. rebuilt ss pending) (append_assoc (postfix f) (Not ∷ []) steps)
     ∙ rebuilt-postfix f (Not ∷ steps) pending room
 rebuilt-postfix (Both f g) steps pending room =
-    ap (λ ss. rebuilt ss pending) (append_assoc (postfix f) (postfix g ++ And ∷ []) steps ∙ ap (λ ss. postfix f ++ ss) (append_assoc (postfix g) (And ∷ []) steps))
+    ap (λ ss. rebuilt ss pending) (append_assoc (postfix f) (postfix g ++ And ∷ []) steps
+    ∙ ap (λ ss. postfix f ++ ss) (append_assoc (postfix g) (And ∷ []) steps))
     ∙ rebuilt-postfix f (postfix g ++ (And ∷ steps)) pending (omega arith)
     ∙ rebuilt-postfix g (And ∷ steps) (f ∷ pending) (omega arith)
 rebuilt-postfix (Either f g) steps pending room =
-    ap (λ ss. rebuilt ss pending) (append_assoc (postfix f) (postfix g ++ Or ∷ []) steps ∙ ap (λ ss. postfix f ++ ss) (append_assoc (postfix g) (Or ∷ []) steps))
+    ap (λ ss. rebuilt ss pending) (append_assoc (postfix f) (postfix g ++ Or ∷ []) steps
+    ∙ ap (λ ss. postfix f ++ ss) (append_assoc (postfix g) (Or ∷ []) steps))
     ∙ rebuilt-postfix f (postfix g ++ (Or ∷ steps)) pending (omega arith)
     ∙ rebuilt-postfix g (Or ∷ steps) (f ∷ pending) (omega arith)
 
@@ -184,7 +199,8 @@ most Operand = 1
 most Conjunction = 2
 most Disjunction = 3
 
-derived-need : {phrase : Phrase} {room : ℕ} {tokens : List Token} {f : Expression} → Derives phrase room tokens f → need f ≤ 2 * room + most phrase
+derived-need : {phrase : Phrase} {room : ℕ} {tokens : List Token} {f : Expression} → Derives phrase room tokens f
+    → need f ≤ 2 * room + most phrase
 derived-need (compare room s c n) = omega arith
 derived-need (negation room tokens f d) = omega (arith, derived-need d)
 derived-need (group room tokens f d) = omega (arith, derived-need d)
@@ -197,11 +213,13 @@ pub filter-rebuilt : (tokens : List Token) (f : Expression) → AreFilter tokens
 filter-rebuilt tokens f d = postfix-rebuilt f (omega (arith, derived-need d))
 
 -- the step at an index, and those behind it
-pub next_step : (steps : List Step) (index : ℕ) (d : Step) (pending : List Expression) (f : Expression) → index < length steps → rebuilt (drop index steps) pending ≡ Some f
+pub next_step : (steps : List Step) (index : ℕ) (d : Step) (pending : List Expression) (f : Expression) → index < length steps
+    → rebuilt (drop index steps) pending ≡ Some f
     → (next : List Expression) × (after_step (get_or steps index d) pending ≡ Some next) × (rebuilt (drop (index + 1) steps) next ≡ Some f)
 next_step steps index d pending f within e =
     let parts : drop index steps ≡ get_or steps index d ∷ drop (index + 1) steps = rw (add-one, drop-cons steps index d) in
     rebuilt-next (get_or steps index d) (drop (index + 1) steps) pending f (ap (λ ss. rebuilt ss pending) (sym parts) ∙ e)
 
-pub all_told : (steps : List Step) (index : ℕ) (pending : List Expression) (f : Expression) → length steps ≤ index → rebuilt (drop index steps) pending ≡ Some f → rebuilt [] pending ≡ Some f
+pub all_told : (steps : List Step) (index : ℕ) (pending : List Expression) (f : Expression) → length steps ≤ index
+    → rebuilt (drop index steps) pending ≡ Some f → rebuilt [] pending ≡ Some f
 all_told steps index pending f past e = ap (λ ss. rebuilt ss pending) (sym (drop_all index steps past)) ∙ e

@@ -1,5 +1,6 @@
 -- A piece spells one token at the most.
-use Rattle.std.proofs.Common.{◌≡◌, ℕ, Bool, true, false, List, [], get_or, cond, Option, Some, None, refl, sym, ap, ◌∙◌, subst, arith, ℤ, pos, negsuc, codes, ◌⊎◌, inl, inr}
+use Rattle.std.proofs.Common.{◌≡◌, ℕ, Bool, true, false, List, [], get_or, cond, Option, Some, None, refl, sym, ap, ◌∙◌, subst, arith, ℤ}
+use Rattle.std.proofs.Common.{pos, negsuc, codes, ◌⊎◌, inl, inr}
 use Rattle.std.specs.Str.{bytes_eq}
 use Rattle.std.specs.Int.{IsInRange}
 use Rattle.std.proofs.lemmas.Option.{same_Some}
@@ -128,7 +129,8 @@ pub one_token : (piece : List ℕ) (first second : Token) → Spells piece first
 one_token piece first second s t = same first second (reading piece first s) (reading piece second t)
   where
     clash : (z : ℤ) (token : Token) → SpellsInteger piece z → keyword piece ≡ Some token → ⊥
-    clash z token n k = no_number token (get_or piece 0 0) (keyword_word piece token k) (ap (λ ds. get_or ds 0 0) (keyword-spells piece token k).0) (begins_number piece z n)
+    clash z token n k = no_number token (get_or piece 0 0) (keyword_word piece token k)
+        (ap (λ ds. get_or ds 0 0) (keyword-spells piece token k).0) (begins_number piece z n)
 
     same : (a b : Token) → Reading piece a → Reading piece b → a ≡ b
     same a b (inl m) (inl n) = m.1 ∙ ap Number (one_integer piece m.0 n.0 m.2 n.2) ∙ sym n.1

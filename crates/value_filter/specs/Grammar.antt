@@ -7,7 +7,8 @@ use Rattle.value_filter.specs.declared.steps.TheConstants.{OPEN_AT_ONCE}
 use Rattle.value_filter.specs.declared.faults.FilterFault.{FilterFault}
 use Rattle.value_filter.specs.declared.faults.FilterFault.TheVariants.{At, NoMemory}
 use Rattle.value_filter.specs.declared.tokens.Token.{Token}
-use Rattle.value_filter.specs.declared.tokens.Token.TheVariants.{Subject as SubjectToken, Sign, Number, AndWord, OrWord, NotWord, Open, Close}
+use Rattle.value_filter.specs.declared.tokens.Token.TheVariants.{Subject as SubjectToken, Sign, Number, AndWord, OrWord, NotWord, Open}
+use Rattle.value_filter.specs.declared.tokens.Token.TheVariants.{Close}
 use Rattle.value_filter.specs.Expressions.{Expression, Compare, Negate, Both, Either}
 use Rattle.value_filter.specs.Steps.{expression_of}
 use Rattle.value_filter.specs.Pieces.{past_spaces, next_piece, Spells, Begins}

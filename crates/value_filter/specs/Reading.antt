@@ -9,7 +9,8 @@ use Rattle.value_filter.specs.declared.steps.TheConstants.{OPEN_AT_ONCE}
 use Rattle.value_filter.specs.declared.faults.FilterFault.{FilterFault}
 use Rattle.value_filter.specs.declared.faults.FilterFault.TheVariants.{At, NoMemory}
 use Rattle.value_filter.specs.declared.tokens.Token.{Token}
-use Rattle.value_filter.specs.declared.tokens.Token.TheVariants.{Subject as SubjectToken, Sign, Number, AndWord, OrWord, NotWord, Open, Close}
+use Rattle.value_filter.specs.declared.tokens.Token.TheVariants.{Subject as SubjectToken, Sign, Number, AndWord, OrWord, NotWord, Open}
+use Rattle.value_filter.specs.declared.tokens.Token.TheVariants.{Close}
 use Rattle.value_filter.specs.declared.frames.Frame.{Frame}
 use Rattle.value_filter.specs.declared.frames.Frame.TheVariants.{Disjunct, Conjunct, Negation, Parenthesis}
 use Rattle.value_filter.specs.declared.parser.Phase.{Phase}
@@ -68,7 +69,11 @@ begun Open state = opening Parenthesis state
 begun _ state = None
 
 unfoldable pub compared : Subject → Token → State → Option State
-compared subject (Sign comparison) state = Some (record { phase = AwaitsNumber subject comparison; frames = state.frames; steps = state.steps })
+compared subject (Sign comparison) state = Some (record {
+  phase = AwaitsNumber subject comparison;
+  frames = state.frames;
+  steps = state.steps;
+})
 compared subject _ state = None
 
 unfoldable pub numbered : Subject → Comparison → Token → State → Option State

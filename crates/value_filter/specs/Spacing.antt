@@ -35,4 +35,5 @@ StandsApart NotWord rest = EndsWord rest
 abbrev pub IsSpaced : List Token → List ℕ → Type 0
 IsSpaced [] text = AreSpaces text
 IsSpaced (token ∷ tokens) text =
-    (gap rest : List ℕ) × AreSpaces gap × (text ≡ gap ++ (spelling token ++ rest)) × IsShort token × StandsApart token rest × IsSpaced tokens rest
+    (gap rest : List ℕ) × AreSpaces gap × (text ≡ gap ++ (spelling token ++ rest)) × IsShort token × StandsApart token rest
+    × IsSpaced tokens rest

@@ -1,5 +1,6 @@
 ghost use Rattle.std.specs.Prelude.{◌≡◌, ◌+◌, ◌<◌, ◌∷◌, Some, OnOk, IfOk, IfErr};
-ghost use Rattle.value_filter.specs.Reading.{initial, completed, joined, awaiting, opening, opened, closed, begun, compared, numbered, continued, taken, finished, Refuses};
+ghost use Rattle.value_filter.specs.Reading.{initial, completed, joined, awaiting, opening, opened, closed, begun, compared, numbered};
+ghost use Rattle.value_filter.specs.Reading.{continued, taken, finished, Refuses};
 
 use crate::atoms::{Atom, Comparison, Subject};
 use crate::faults::FilterFault;

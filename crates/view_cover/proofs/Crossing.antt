@@ -24,7 +24,8 @@ left-is : (w : Scope) (k : Key) → w.from < end_slot k → first_slot k < w.end
 unfolding is_across
 left-is w k a b c d = grind (arith, nat_tests, a, b, c, d)
 
-left-not : (w : Scope) (k : Key) → w.from < end_slot k → first_slot k < w.end → first_slot k < w.from → w.end ≤ w.from → is_across w k ≡ false
+left-not : (w : Scope) (k : Key) → w.from < end_slot k → first_slot k < w.end → first_slot k < w.from → w.end ≤ w.from
+    → is_across w k ≡ false
 unfolding is_across
 left-not w k a b c d = grind (arith, nat_tests, a, b, c, d)
 
@@ -100,16 +101,33 @@ one-column w k a b same across =
     cut.outside (record { slot = other.slot; shown = other.shown; place = omega (arith, c1, c2, o1, o2, same) })
 
 -- a key either lies across such an end, and the test says so, or doesn't, and it says that
-pub decided : (w : Scope) (k : Key) → ((is_across w k ≡ true) × IsAcross w.axis w.grid k) ⊎ ((is_across w k ≡ false) × (IsAcross w.axis w.grid k → ⊥))
+pub decided : (w : Scope) (k : Key) → ((is_across w k ≡ true) × IsAcross w.axis w.grid k)
+    ⊎ ((is_across w k ≡ false) × (IsAcross w.axis w.grid k → ⊥))
 decided w k =
     elim (cases_lt w.from (end_slot k)) [
-      | inr before ↦ inr (before-not w k before, λ h. absurd (omega (arith, before, h.cut.in_range.to, (shown-slot w h.column h.cut.slot h.cut.in_column).0)))
+      | inr before ↦ inr (
+        before-not w k before,
+        λ h. absurd
+            (omega (arith, before, h.cut.in_range.to, (shown-slot w h.column h.cut.slot h.cut.in_column).0)),
+      )
       | inl a ↦ elim (cases_lt (first_slot k) w.end) [
-        | inr behind ↦ inr (behind-not w k behind, λ h. absurd (omega (arith, behind, h.cut.in_range.from, (shown-slot w h.column h.cut.slot h.cut.in_column).1)))
+        | inr behind ↦ inr (
+          behind-not w k behind,
+          λ h. absurd
+              (omega (arith, behind, h.cut.in_range.from, (shown-slot w h.column h.cut.slot h.cut.in_column).1)),
+        )
         | inl b ↦ elim (cases_lt (first_slot k) w.from) [
           | inl left ↦ elim (cases_lt w.from w.end) [
             | inl some ↦ inl (left-is w k a b left some, left-across w k a left some)
-            | inr none ↦ inr (left-not w k a b left none, λ h. absurd (omega (arith, none, (shown-slot w h.column h.cut.slot h.cut.in_column).0, (shown-slot w h.column h.cut.slot h.cut.in_column).1)))
+            | inr none ↦ inr (
+              left-not w k a b left none,
+              λ h. absurd (omega (
+                arith,
+                none,
+                (shown-slot w h.column h.cut.slot h.cut.in_column).0,
+                (shown-slot w h.column h.cut.slot h.cut.in_column).1,
+              )),
+            )
           ]
           | inr from ↦ elim (cases_lt w.end (end_slot k)) [
             | inl right ↦ inl (right-is w k a b right (omega (arith, from, b)), right-across w k from b right)
@@ -145,11 +163,14 @@ left-says : (w : Scope) (k : Key) → w.from < end_slot k → first_slot k < w.e
 unfolding is_across
 left-says w k a b c = grind (arith, nat_tests, a, b, c)
 
-pub left-test : (w : Scope) (k : Key) (f e : ℕ) → f ≡ first_slot k → e ≡ end_slot k → w.from < e → f < w.end → f < w.from → nat_lt w.from w.end ≡ is_across w k
+pub left-test : (w : Scope) (k : Key) (f e : ℕ) → f ≡ first_slot k → e ≡ end_slot k → w.from < e → f < w.end → f < w.from
+    → nat_lt w.from w.end ≡ is_across w k
 left-test w k f e f_is e_is a b c = left-says w k (omega (arith, e_is, a)) (omega (arith, f_is, b)) (omega (arith, f_is, c))
 
-pub right-test : (w : Scope) (k : Key) (f e : ℕ) → f ≡ first_slot k → e ≡ end_slot k → w.from < e → f < w.end → w.from ≤ f → w.end < e → true ≡ is_across w k
-right-test w k f e f_is e_is a b c d = sym (right-is w k (omega (arith, e_is, a)) (omega (arith, f_is, b)) (omega (arith, e_is, d)) (omega (arith, b, c)))
+pub right-test : (w : Scope) (k : Key) (f e : ℕ) → f ≡ first_slot k → e ≡ end_slot k → w.from < e → f < w.end → w.from ≤ f → w.end < e
+    → true ≡ is_across w k
+right-test w k f e f_is e_is a b c d = sym (right-is w k (omega (arith, e_is, a)) (omega (arith, f_is, b)) (omega (arith, e_is, d))
+    (omega (arith, b, c)))
 
 inner-says : (w : Scope) (k : Key) → w.from < end_slot k → first_slot k < w.end → w.from ≤ first_slot k → end_slot k ≤ w.end
     → not (column w.grid (slot_time w.axis (first_slot k)) == column w.grid (slot_time w.axis (end_slot k - 1))) ≡ is_across w k
@@ -159,5 +180,6 @@ inner-says w k a b c d = grind (arith, nat_tests, a, b, c, d)
 pub inner-test : (w : Scope) (k : Key) (f e p q : ℕ) → f ≡ first_slot k → e ≡ end_slot k → w.from < e → f < w.end → w.from ≤ f → e ≤ w.end
     → column w.grid (slot_time w.axis f) ≡ p → column w.grid (slot_time w.axis (e - 1)) ≡ q → not (p == q) ≡ is_across w k
 inner-test w k f e p q f_is e_is a b c d first last =
-    ap₂ (λ (m n : ℕ). not (m == n)) (sym first ∙ ap (λ (i : ℕ). column w.grid (slot_time w.axis i)) f_is) (sym last ∙ ap (λ (i : ℕ). column w.grid (slot_time w.axis (i - 1))) e_is)
+    ap₂ (λ (m n : ℕ). not (m == n)) (sym first ∙ ap (λ (i : ℕ). column w.grid (slot_time w.axis i)) f_is) (sym last
+    ∙ ap (λ (i : ℕ). column w.grid (slot_time w.axis (i - 1))) e_is)
     ∙ inner-says w k (omega (arith, e_is, a)) (omega (arith, f_is, b)) (omega (arith, f_is, c)) (omega (arith, e_is, d))

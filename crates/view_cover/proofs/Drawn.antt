@@ -48,11 +48,25 @@ columns-rise w i j c d low a b =
     omega (arith, a.place, b.place, column-rising w.grid (slot_time w.axis i) (slot_time w.axis j) a.shown b.shown (time-rises w i j low))
 
 -- the columns of the first and of the last drawn slot of a key's range
-pub columns-in : (w : Scope) (k : Key) (first end left right last : ℕ) → first ≡ max (first_slot k) w.from → end ≡ min (end_slot k) w.end → first < end → last + 1 ≡ end
+pub columns-in : (w : Scope) (k : Key) (first end left right last : ℕ) → first ≡ max (first_slot k) w.from → end ≡ min (end_slot k) w.end
+    → first < end → last + 1 ≡ end
     → IsInColumn w.axis w.grid left first → IsInColumn w.axis w.grid right last → AreColumnsIn w.axis w.grid k left right
 columns-in w k first end left right last first_is end_is some last_is at_left at_right = record {
-  left_drawn = record { slot = first; in_range = record { from = omega (arith, first_is); to = omega (arith, some, end_is) }; in_column = at_left };
-  right_drawn = record { slot = last; in_range = record { from = omega (arith, some, first_is, last_is); to = omega (arith, end_is, last_is) }; in_column = at_right };
-  none_left = λ c h. columns-rise w first h.slot left c (omega (arith, first_is, h.in_range.from, (shown-slot w c h.slot h.in_column).0)) at_left h.in_column;
-  none_right = λ c h. columns-rise w h.slot last c right (omega (arith, end_is, last_is, h.in_range.to, (shown-slot w c h.slot h.in_column).1)) h.in_column at_right;
+  left_drawn = record {
+    slot = first;
+    in_range = record { from = omega (arith, first_is); to = omega (arith, some, end_is) };
+    in_column = at_left;
+  };
+  right_drawn = record {
+    slot = last;
+    in_range = record {
+      from = omega (arith, some, first_is, last_is);
+      to = omega (arith, end_is, last_is);
+    };
+    in_column = at_right;
+  };
+  none_left = λ c h. columns-rise w first h.slot left c
+      (omega (arith, first_is, h.in_range.from, (shown-slot w c h.slot h.in_column).0)) at_left h.in_column;
+  none_right = λ c h. columns-rise w h.slot last c right
+      (omega (arith, end_is, last_is, h.in_range.to, (shown-slot w c h.slot h.in_column).1)) h.in_column at_right;
 }

@@ -10,7 +10,8 @@ use Rattle.view_keys.proofs.Ranging.{above-in_range, shared-above, first-in_rang
 use Rattle.view_cover.specs.Scene.{Scene, known_in, IsSeen}
 use Rattle.view_cover.specs.Front.{IsLowest}
 use Rattle.view_cover.proofs.Spans.{Basis, not-known, not-empty}
-use Rattle.view_cover.proofs.Trees.{peak, above-same, above-trans, level-same, seen-above, left-key, right-key, left-parent, right-parent, left-above, right-above}
+use Rattle.view_cover.proofs.Trees.{peak, above-same, above-trans, level-same, seen-above, left-key, right-key, left-parent, right-parent}
+use Rattle.view_cover.proofs.Trees.{left-above, right-above}
 use Rattle.view_cover.proofs.Fronts.{lowest-slot}
 
 pub some-slots : (k : Key) → first_slot k < end_slot k
@@ -33,7 +34,8 @@ seen-cases scene k key =
     ]
 
 -- a seen key without seen halves is one of the lowest
-lowest-bare : (scene : Scene) (k : Key) (s : Span) → IsSeen scene k s → ((a : Span) → IsSeen scene (left_of k) a → ⊥) → ((b : Span) → IsSeen scene (right_of k) b → ⊥) → IsLowest scene k s
+lowest-bare : (scene : Scene) (k : Key) (s : Span) → IsSeen scene k s → ((a : Span) → IsSeen scene (left_of k) a → ⊥)
+    → ((b : Span) → IsSeen scene (right_of k) b → ⊥) → IsLowest scene k s
 lowest-bare scene k s seen left right = record {
   seen = seen;
   no_half = λ h t up half_seen. elim (cases_eq (h.index % 2) 0) [
@@ -48,12 +50,15 @@ below-half k n strict above =
     let r : IsInRange k (first_slot n) = above-in_range k n (first_slot n) above (first-in_range n) in
     let low : 1 ≤ k.level = omega (arith, strict) in
     elim (cases_lt (first_slot n) (end_slot (left_of k))) [
-      | inl left ↦ inl (shared-above (left_of k) n (first_slot n) (omega (arith, strict)) (record { from = omega (arith, r.from, left_first k low); to = left }) (first-in_range n))
-      | inr right ↦ inr (shared-above (right_of k) n (first_slot n) (omega (arith, strict)) (record { from = right; to = omega (arith, r.to, right_end k low) }) (first-in_range n))
+      | inl left ↦ inl (shared-above (left_of k) n (first_slot n) (omega (arith, strict))
+          (record { from = omega (arith, r.from, left_first k low); to = left }) (first-in_range n))
+      | inr right ↦ inr (shared-above (right_of k) n (first_slot n) (omega (arith, strict))
+          (record { from = right; to = omega (arith, r.to, right_end k low) }) (first-in_range n))
     ]
 
 -- so does a lowest key, where a half is seen
-pub in-halves : (scene : Scene) (k n : Key) (t : Span) → IsLowest scene n t → IsAtOrAbove k n → (h : Key) (a : Span) → parent_of h ≡ k → IsSeen scene h a
+pub in-halves : (scene : Scene) (k n : Key) (t : Span) → IsLowest scene n t → IsAtOrAbove k n → (h : Key) (a : Span) → parent_of h ≡ k
+    → IsSeen scene h a
     → IsAtOrAbove (left_of k) n ⊎ IsAtOrAbove (right_of k) n
 in-halves scene k n t low above h a up seen =
     elim (cases_lt n.level k.level) [
@@ -94,19 +99,29 @@ first-itself by scene k s low = record {
   none = λ n t n_low above before. absurd (omega (arith, before, by.first k n above, some-slots n));
 }
 
-last-right : Basis → (scene : Scene) (k : Key) (b : Span) → 1 ≤ k.level → IsSeen scene (right_of k) b → HasLast scene (right_of k) → HasLast scene k
+last-right : Basis → (scene : Scene) (k : Key) (b : Span) → 1 ≤ k.level → IsSeen scene (right_of k) b → HasLast scene (right_of k)
+    → HasLast scene k
 last-right by scene k b low seen f = record {
   key = f.key;
   span = f.span;
   lowest = f.lowest;
   above = above-trans k (right_of k) f.key (right-above k low) f.above;
   none = λ n t n_low above behind. elim (in-halves scene k n t n_low above (right_of k) b (right-parent k low) seen) [
-    | inl left ↦ absurd (omega (arith, behind, by.last (left_of k) n left, some-slots n, middle-is k, by.first (right_of k) f.key f.above, some-slots f.key))
+    | inl left ↦ absurd (omega (
+      arith,
+      behind,
+      by.last (left_of k) n left,
+      some-slots n,
+      middle-is k,
+      by.first (right_of k) f.key f.above,
+      some-slots f.key,
+    ))
     | inr right ↦ f.none n t n_low right behind
   ];
 }
 
-last-left : Basis → (scene : Scene) (k : Key) (a : Span) → 1 ≤ k.level → IsSeen scene k a → ((b : Span) → IsSeen scene (right_of k) b → ⊥) → (s : Span) → IsSeen scene (left_of k) s
+last-left : Basis → (scene : Scene) (k : Key) (a : Span) → 1 ≤ k.level → IsSeen scene k a → ((b : Span) → IsSeen scene (right_of k) b → ⊥)
+    → (s : Span) → IsSeen scene (left_of k) s
     → HasLast scene (left_of k) → HasLast scene k
 last-left by scene k a low top_seen bare s seen f = record {
   key = f.key;
@@ -119,7 +134,8 @@ last-left by scene k a low top_seen bare s seen f = record {
   ];
 }
 
-first-left : Basis → (scene : Scene) (k : Key) (a : Span) → 1 ≤ k.level → IsSeen scene (left_of k) a → HasFirst scene (left_of k) → HasFirst scene k
+first-left : Basis → (scene : Scene) (k : Key) (a : Span) → 1 ≤ k.level → IsSeen scene (left_of k) a → HasFirst scene (left_of k)
+    → HasFirst scene k
 first-left by scene k a low seen f = record {
   key = f.key;
   span = f.span;
@@ -127,11 +143,20 @@ first-left by scene k a low seen f = record {
   above = above-trans k (left_of k) f.key (left-above k low) f.above;
   none = λ n t n_low above before. elim (in-halves scene k n t n_low above (left_of k) a (left-parent k low) seen) [
     | inl left ↦ f.none n t n_low left before
-    | inr right ↦ absurd (omega (arith, before, by.first (right_of k) n right, some-slots n, middle-is k, by.last (left_of k) f.key f.above, some-slots f.key))
+    | inr right ↦ absurd (omega (
+      arith,
+      before,
+      by.first (right_of k) n right,
+      some-slots n,
+      middle-is k,
+      by.last (left_of k) f.key f.above,
+      some-slots f.key,
+    ))
   ];
 }
 
-first-right : Basis → (scene : Scene) (k : Key) (a : Span) → 1 ≤ k.level → IsSeen scene k a → ((b : Span) → IsSeen scene (left_of k) b → ⊥) → (s : Span) → IsSeen scene (right_of k) s
+first-right : Basis → (scene : Scene) (k : Key) (a : Span) → 1 ≤ k.level → IsSeen scene k a → ((b : Span) → IsSeen scene (left_of k) b → ⊥)
+    → (s : Span) → IsSeen scene (right_of k) s
     → HasFirst scene (right_of k) → HasFirst scene k
 first-right by scene k a low top_seen bare s seen f = record {
   key = f.key;

@@ -42,7 +42,8 @@ max-left a b y h = grind (arith, ints, h)
 max-right : (a b y : ℤ) → y ≤ℤ b → y ≤ℤ int_max a b
 max-right a b y h = grind (arith, ints, h)
 
-reach-rectangle : (scene : Scene) (k l : Key) (s t : Span) (c : ℕ) (y : ℤ) → IsDrawnIn scene.axis scene.grid k c → Reach scene s t y → InRectangle scene k s l t c y
+reach-rectangle : (scene : Scene) (k l : Key) (s t : Span) (c : ℕ) (y : ℤ) → IsDrawnIn scene.axis scene.grid k c → Reach scene s t y
+    → InRectangle scene k s l t c y
 reach-rectangle scene k l s t c y drawn r = record {
   columns = record { first = c; first_drawn = inl drawn; from = omega arith; last = c; last_drawn = inl drawn; to = omega arith };
   above = elim r.down [ inl h ↦ min-left (bottom scene s) (bottom scene t) y h | inr h ↦ min-right (bottom scene s) (bottom scene t) y h ];
@@ -54,7 +55,8 @@ pub record Drawn (scene : Scene) (c : ℕ) (k : Key) (s : Span) : Type 0 where
   pub lowest : IsLowest scene k s
   pub drawn : IsDrawnIn scene.axis scene.grid k c
 
-in-box : (scene : Scene) (c : ℕ) (k : Key) (s : Span) (y : ℤ) → Drawn scene c k s → bottom scene s ≤ℤ y → y ≤ℤ top scene s → InCover scene c y
+in-box : (scene : Scene) (c : ℕ) (k : Key) (s : Span) (y : ℤ) → Drawn scene c k s → bottom scene s ≤ℤ y → y ≤ℤ top scene s
+    → InCover scene c y
 in-box scene c k s y d low high = inl (record {
   key = k;
   span = s;
@@ -62,7 +64,8 @@ in-box scene c k s y d low high = inl (record {
   pixel = reach-rectangle scene k k s s c y d.drawn (record { down = inl low; up = inl high });
 })
 
-in-join : (scene : Scene) (c : ℕ) (k l : Key) (s t : Span) (y : ℤ) → Drawn scene c k s → Drawn scene c l t → AreConsecutive scene k l → Reach scene s t y → InCover scene c y
+in-join : (scene : Scene) (c : ℕ) (k l : Key) (s t : Span) (y : ℤ) → Drawn scene c k s → Drawn scene c l t → AreConsecutive scene k l
+    → Reach scene s t y → InCover scene c y
 in-join scene c k l s t y d e next r = inr (record {
   key = k;
   span = s;
@@ -75,7 +78,8 @@ in-join scene c k l s t y d e next r = inr (record {
 })
 
 -- the last lowest key below the left half and the first one below the right half are consecutive
-halves-meet : Basis → (scene : Scene) (k : Key) (s : Span) → 1 ≤ k.level → IsSeen scene k s → (f : HasLast scene (left_of k)) (g : HasFirst scene (right_of k)) → AreConsecutive scene f.key g.key
+halves-meet : Basis → (scene : Scene) (k : Key) (s : Span) → 1 ≤ k.level → IsSeen scene k s
+    → (f : HasLast scene (left_of k)) (g : HasFirst scene (right_of k)) → AreConsecutive scene f.key g.key
 halves-meet by scene k s low seen f g = record {
   order = omega (arith, by.last (left_of k) f.key f.above, middle-is k, by.first (right_of k) g.key g.above);
   none_between = λ m u front from to.
@@ -84,7 +88,8 @@ halves-meet by scene k s low seen f g = record {
         to = omega (arith, to, some-slots m, some-slots g.key, by.last (right_of k) g.key g.above, right_end k low);
       } in
       elim (cases_lt k.level m.level) [
-        | inl under ↦ lowest-ends by scene m k u s front.lowest seen (shared-above m k (first_slot m) (omega (arith, under)) (first-in_range m) inside) under
+        | inl under ↦ lowest-ends by scene m k u s front.lowest seen
+            (shared-above m k (first_slot m) (omega (arith, under)) (first-in_range m) inside) under
         | inr over ↦ elim (in-halves scene k m u front.lowest (shared-above k m (first_slot m) over inside (first-in_range m)) (left_of k)
             (seen-above by scene (left_of k) f.key f.span (omega (arith, seen.key.high)) f.above f.lowest.seen).0 (left-parent k low)
             (seen-above by scene (left_of k) f.key f.span (omega (arith, seen.key.high)) f.above f.lowest.seen).1) [
@@ -95,7 +100,8 @@ halves-meet by scene k s low seen f g = record {
 }
 
 -- the last lowest key of the left half is drawn in the column, where one of each half is
-last-drawn : Basis → (scene : Scene) (c : ℕ) (k a b : Key) (s t : Span) → Drawn scene c a s → Drawn scene c b t → IsAtOrAbove (left_of k) a → IsAtOrAbove (right_of k) b
+last-drawn : Basis → (scene : Scene) (c : ℕ) (k a b : Key) (s t : Span) → Drawn scene c a s → Drawn scene c b t → IsAtOrAbove (left_of k) a
+    → IsAtOrAbove (right_of k) b
     → (f : HasLast scene (left_of k)) → Drawn scene c f.key f.span
 last-drawn by scene c k a b s t at_a at_b left right f = record {
   lowest = f.lowest;
@@ -106,14 +112,23 @@ last-drawn by scene c k a b s t at_a at_b left right f = record {
       | inl behind ↦ record {
         slot = first_slot f.key;
         in_range = first-in_range f.key;
-        in_column = column-between scene.axis scene.grid c at_a.drawn.slot (first_slot f.key) at_b.drawn.slot (omega (arith, behind, at_a.drawn.in_range.to))
-            (omega (arith, some-slots f.key, by.last (left_of k) f.key f.above, middle-is k, by.first (right_of k) b right, at_b.drawn.in_range.from)) at_a.drawn.in_column at_b.drawn.in_column;
+        in_column = column-between scene.axis scene.grid c at_a.drawn.slot (first_slot f.key) at_b.drawn.slot
+            (omega (arith, behind, at_a.drawn.in_range.to))
+            (omega (
+              arith,
+              some-slots f.key,
+              by.last (left_of k) f.key f.above,
+              middle-is k,
+              by.first (right_of k) b right,
+              at_b.drawn.in_range.from,
+            )) at_a.drawn.in_column at_b.drawn.in_column;
       }
     ]
   ];
 }
 
-first-drawn : Basis → (scene : Scene) (c : ℕ) (k a b : Key) (s t : Span) → Drawn scene c a s → Drawn scene c b t → IsAtOrAbove (left_of k) a → IsAtOrAbove (right_of k) b
+first-drawn : Basis → (scene : Scene) (c : ℕ) (k a b : Key) (s t : Span) → Drawn scene c a s → Drawn scene c b t → IsAtOrAbove (left_of k) a
+    → IsAtOrAbove (right_of k) b
     → (g : HasFirst scene (right_of k)) → Drawn scene c g.key g.span
 first-drawn by scene c k a b s t at_a at_b left right g = record {
   lowest = g.lowest;
@@ -136,7 +151,8 @@ int-cases : (a b : ℤ) → (a ≤ℤ b) ⊎ (b <ℤ a)
 int-cases a b = by_lt_z b a inr inl
 
 -- Between a lowest key on the left and one on the right: where three parts fill the rows between their ends, all is filled.
-chain : (scene : Scene) → AreOrdered scene → ((u v : ℤ) → u ≤ℤ v → height u scene.lo scene.hi scene.grid.h ≤ℤ height v scene.lo scene.hi scene.grid.h)
+chain : (scene : Scene) → AreOrdered scene → ((u v : ℤ) → u ≤ℤ v
+    → height u scene.lo scene.hi scene.grid.h ≤ℤ height v scene.lo scene.hi scene.grid.h)
     → (c : ℕ) (f g : Key) (s p q t : Span) (y : ℤ) → Drawn scene c f p → Drawn scene c g q
     → (Reach scene s p y → InCover scene c y) → (Reach scene p q y → InCover scene c y) → (Reach scene q t y → InCover scene c y)
     → Reach scene s t y → InCover scene c y
@@ -172,17 +188,23 @@ Fills scene c y n = (k : Key) (s : Span) → k.level ≤ n → IsSeen scene k s 
     → IsAtOrAbove k a → IsAtOrAbove k b → Reach scene t u y → InCover scene c y
 
 reach-turned : (scene : Scene) (s t : Span) (y : ℤ) → Reach scene s t y → Reach scene t s y
-reach-turned scene s t y r = record { down = elim r.down [ inl h ↦ inr h | inr h ↦ inl h ]; up = elim r.up [ inl h ↦ inr h | inr h ↦ inl h ] }
+reach-turned scene s t y r = record {
+  down = elim r.down [ inl h ↦ inr h | inr h ↦ inl h ];
+  up = elim r.up [ inl h ↦ inr h | inr h ↦ inl h ];
+}
 
-fill-one : (scene : Scene) (c : ℕ) (y : ℤ) (a b : Key) (t u : Span) → Drawn scene c a t → Drawn scene c b u → a ≡ b → Reach scene t u y → InCover scene c y
+fill-one : (scene : Scene) (c : ℕ) (y : ℤ) (a b : Key) (t u : Span) → Drawn scene c a t → Drawn scene c b u → a ≡ b → Reach scene t u y
+    → InCover scene c y
 fill-one scene c y a b t u at_a at_b same r =
     let one : IsSeen scene a u = subst (λ (w : Key). IsSeen scene w u) (sym same) at_b.lowest.seen in
     let spans : u ≡ t = seen-one scene a u t one at_a.lowest.seen in
     let here : Reach scene t t y = subst (λ (v : Span). Reach scene t v y) spans r in
     in-box scene c a t y at_a (elim here.down [ inl h ↦ h | inr h ↦ h ]) (elim here.up [ inl h ↦ h | inr h ↦ h ])
 
-fill-across : Basis → (scene : Scene) → AreOrdered scene → (c : ℕ) (y : ℤ) (n : ℕ) → Fills scene c y n → (k : Key) (s : Span) → k.level ≤ suc n → 1 ≤ k.level → IsSeen scene k s
-    → (a b : Key) (t u : Span) → Drawn scene c a t → Drawn scene c b u → IsAtOrAbove (left_of k) a → IsAtOrAbove (right_of k) b → Reach scene t u y → InCover scene c y
+fill-across : Basis → (scene : Scene) → AreOrdered scene → (c : ℕ) (y : ℤ) (n : ℕ) → Fills scene c y n → (k : Key) (s : Span)
+    → k.level ≤ suc n → 1 ≤ k.level → IsSeen scene k s
+    → (a b : Key) (t u : Span) → Drawn scene c a t → Drawn scene c b u → IsAtOrAbove (left_of k) a → IsAtOrAbove (right_of k) b
+    → Reach scene t u y → InCover scene c y
 fill-across by scene ordered c y n fills k s few low seen a b t u at_a at_b left right r =
     let l = seen-above by scene (left_of k) a t (omega (arith, seen.key.high)) left at_a.lowest.seen in
     let h = seen-above by scene (right_of k) b u (omega (arith, seen.key.high)) right at_b.lowest.seen in
@@ -196,8 +218,10 @@ fill-across by scene ordered c y n fills k s few low seen a b t u at_a at_b left
     (λ q. fills (right_of k) h.0 (omega (arith, few, low)) h.1 g.key b g.span u at_g at_b g.above right q)
     r
 
-fill-halves : Basis → (scene : Scene) → AreOrdered scene → (c : ℕ) (y : ℤ) (n : ℕ) → Fills scene c y n → (k : Key) (s : Span) → k.level ≤ suc n → 1 ≤ k.level → IsSeen scene k s
-    → (a b : Key) (t u : Span) → Drawn scene c a t → Drawn scene c b u → IsAtOrAbove (left_of k) a ⊎ IsAtOrAbove (right_of k) a → IsAtOrAbove (left_of k) b ⊎ IsAtOrAbove (right_of k) b
+fill-halves : Basis → (scene : Scene) → AreOrdered scene → (c : ℕ) (y : ℤ) (n : ℕ) → Fills scene c y n → (k : Key) (s : Span)
+    → k.level ≤ suc n → 1 ≤ k.level → IsSeen scene k s
+    → (a b : Key) (t u : Span) → Drawn scene c a t → Drawn scene c b u → IsAtOrAbove (left_of k) a ⊎ IsAtOrAbove (right_of k) a
+    → IsAtOrAbove (left_of k) b ⊎ IsAtOrAbove (right_of k) b
     → Reach scene t u y → InCover scene c y
 fill-halves by scene ordered c y n fills k s few low seen a b t u at_a at_b (inl left) (inl left_b) r =
     let l = seen-above by scene (left_of k) a t (omega (arith, seen.key.high)) left at_a.lowest.seen in
@@ -232,7 +256,8 @@ fill-step by scene ordered c y n fills k s few seen a b t u at_a at_b above_a ab
                 (let same : k ≡ b = level-same k b above_b high in
                 fill-one scene c y a b t u at_a at_b
                 (sym (under-lowest by scene b a u t at_b.lowest at_a.lowest.seen (subst (λ (w : Key). IsAtOrAbove w a) same above_a))) r)
-            | inl under_b ↦ fill-halves by scene ordered c y n fills k s few low seen a b t u at_a at_b (below-half k a under above_a) (below-half k b under_b above_b) r
+            | inl under_b ↦ fill-halves by scene ordered c y n fills k s few low seen a b t u at_a at_b (below-half k a under above_a)
+                (below-half k b under_b above_b) r
           ])
     ]
 
@@ -243,7 +268,8 @@ fill-down by scene ordered c y (suc n) k s few seen a b t u at_a at_b above_a ab
     fill-step by scene ordered c y n (fill-down by scene ordered c y n) k s few seen a b t u at_a at_b above_a above_b r
 
 -- The column is filled between two lowest keys that are drawn in it.
-pub fills-column : Basis → (scene : Scene) → AreOrdered scene → (c : ℕ) (y : ℤ) (k : Key) (s : Span) → IsSeen scene k s → (a b : Key) (t u : Span) → Drawn scene c a t → Drawn scene c b u
+pub fills-column : Basis → (scene : Scene) → AreOrdered scene → (c : ℕ) (y : ℤ) (k : Key) (s : Span) → IsSeen scene k s
+    → (a b : Key) (t u : Span) → Drawn scene c a t → Drawn scene c b u
     → IsAtOrAbove k a → IsAtOrAbove k b → Reach scene t u y → InCover scene c y
 fills-column by scene ordered c y k s seen a b t u at_a at_b above_a above_b r =
     fill-down by scene ordered c y k.level k s (omega arith) seen a b t u at_a at_b above_a above_b r

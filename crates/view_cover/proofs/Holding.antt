@@ -1,5 +1,6 @@
 -- A cover holds the chart of each list of which what is told is told.
-use Rattle.std.proofs.Common.{ℕ, ℤ, ◌≡◌, ◌-◌, ◌^◌, ◌<◌, ◌≤◌, ◌≤ℤ◌, ◌<ℤ◌, ◌-ℤ◌, unsigned_abs, ◌⊎◌, inl, inr, List, length, Option, None, Some, refl, sym, ap, ◌∙◌, subst, arith}
+use Rattle.std.proofs.Common.{ℕ, ℤ, ◌≡◌, ◌-◌, ◌^◌, ◌<◌, ◌≤◌, ◌≤ℤ◌, ◌<ℤ◌, ◌-ℤ◌, unsigned_abs, ◌⊎◌, inl, inr, List, length, Option, None}
+use Rattle.std.proofs.Common.{Some, refl, sym, ap, ◌∙◌, subst, arith}
 use Rattle.std.specs.Prelude.{IfSome}
 use Rattle.std.specs.Int.{int_min, int_max}
 use Rattle.std.proofs.lemmas.Bool.{cases_lt}
@@ -84,50 +85,60 @@ record Over (scene : Scene) (c : ℕ) (y : ℤ) : Type 0 where
   at : Drawn scene c key span
   row : y ≤ℤ top scene span
 
-drawn-within : (scene : Scene) (c : ℕ) (k m : Key) → IsWithin scene.axis scene.grid c k → IsAtOrAbove k m → IsDrawnIn scene.axis scene.grid m c
+drawn-within : (scene : Scene) (c : ℕ) (k m : Key) → IsWithin scene.axis scene.grid c k → IsAtOrAbove k m
+    → IsDrawnIn scene.axis scene.grid m c
 drawn-within scene c k m within above = record {
   slot = first_slot m;
   in_range = first-in_range m;
   in_column = within (first_slot m) (above-in_range k m (first_slot m) above (first-in_range m));
 }
 
-under-value : (list : List (Option ℤ)) (scene : Scene) → Told list scene → (c i : ℕ) (v : ℤ) → Holds list i v → IsInColumn scene.axis scene.grid c i
+under-value : (list : List (Option ℤ)) (scene : Scene) → Told list scene → (c i : ℕ) (v : ℤ) → Holds list i v
+    → IsInColumn scene.axis scene.grid c i
     → (y : ℤ) → height v scene.lo scene.hi scene.grid.h ≤ℤ y → Under scene c y
 under-value list scene of c i v holds here y low =
     let f = blocked of.by of.sums list scene of.tells of.few c i v holds here in
     let ends = extremes-of of.sums list f.key f.listed.span f.listed.is in
     let rise = of.by.heights f.listed.span.min v scene.lo scene.hi scene.grid.h (ends.above i v f.in_range.from f.in_range.to holds) in
-    let m = lowest-below of.by scene (λ s. bottom scene s ≤ℤ y) (low-inherited scene y) f.key f.listed.span f.listed.seen (omega (arith, ints, rise, low)) in
+    let m = lowest-below of.by scene (λ s. bottom scene s ≤ℤ y) (low-inherited scene y) f.key f.listed.span f.listed.seen
+    (omega (arith, ints, rise, low)) in
     record { key = m.0; span = m.1; at = record { lowest = m.2; drawn = drawn-within scene c f.key m.0 f.sought m.3 }; row = m.4 }
 
-over-value : (list : List (Option ℤ)) (scene : Scene) → Told list scene → (c i : ℕ) (v : ℤ) → Holds list i v → IsInColumn scene.axis scene.grid c i
+over-value : (list : List (Option ℤ)) (scene : Scene) → Told list scene → (c i : ℕ) (v : ℤ) → Holds list i v
+    → IsInColumn scene.axis scene.grid c i
     → (y : ℤ) → y ≤ℤ height v scene.lo scene.hi scene.grid.h → Over scene c y
 over-value list scene of c i v holds here y high =
     let f = blocked of.by of.sums list scene of.tells of.few c i v holds here in
     let ends = extremes-of of.sums list f.key f.listed.span f.listed.is in
     let rise = of.by.heights v f.listed.span.max scene.lo scene.hi scene.grid.h (ends.below i v f.in_range.from f.in_range.to holds) in
-    let m = lowest-below of.by scene (λ s. y ≤ℤ top scene s) (high-inherited scene y) f.key f.listed.span f.listed.seen (omega (arith, ints, rise, high)) in
+    let m = lowest-below of.by scene (λ s. y ≤ℤ top scene s) (high-inherited scene y) f.key f.listed.span f.listed.seen
+    (omega (arith, ints, rise, high)) in
     record { key = m.0; span = m.1; at = record { lowest = m.2; drawn = drawn-within scene c f.key m.0 f.sought m.3 }; row = m.4 }
 
 top-above : (scene : Scene) (k : Key) (s : Span) → IsSeen scene k s → IsAtOrAbove (top_key scene.axis.slots) k
 top-above scene k s seen = record {
   higher = seen.key.high;
-  holds = index-of 0 (2 ^ (peak scene - k.level)) k.index (power-some (peak scene - k.level)) (omega arith) (omega (arith, seen.key.within));
+  holds = index-of 0 (2 ^ (peak scene - k.level)) k.index (power-some (peak scene - k.level)) (omega arith)
+      (omega (arith, seen.key.within));
 }
 
 -- so the row is in the cover
-between : (list : List (Option ℤ)) (scene : Scene) → Told list scene → (c : ℕ) (y : ℤ) → Under scene c y → Over scene c y → InCover scene c y
+between : (list : List (Option ℤ)) (scene : Scene) → Told list scene → (c : ℕ) (y : ℤ) → Under scene c y → Over scene c y
+    → InCover scene c y
 between list scene of c y u o =
     let n : ℕ = scene.axis.slots in
-    let all = seen-above of.by scene (top_key n) u.key u.span (omega arith) (top-above scene u.key u.span u.at.lowest.seen) u.at.lowest.seen in
+    let all = seen-above of.by scene (top_key n) u.key u.span (omega arith)
+    (top-above scene u.key u.span u.at.lowest.seen) u.at.lowest.seen in
     fills-column of.by scene of.ordered c y (top_key n) all.0 all.1 u.key o.key u.span o.span u.at o.at
-    (top-above scene u.key u.span u.at.lowest.seen) (top-above scene o.key o.span o.at.lowest.seen) (record { down = inl u.row; up = inr o.row })
+    (top-above scene u.key u.span u.at.lowest.seen) (top-above scene o.key o.span o.at.lowest.seen)
+    (record { down = inl u.row; up = inr o.row })
 
 -- the rows from that of one sample of a column to that of another one
 in-column : (scene : Scene) (c d i : ℕ) → c ≡ d → IsInColumn scene.axis scene.grid c i → IsInColumn scene.axis scene.grid d i
 in-column scene c d i same here = subst (λ (x : ℕ). IsInColumn scene.axis scene.grid x i) same here
 
-column-in : (list : List (Option ℤ)) (scene : Scene) → Told list scene → (i j : ℕ) (p q : Point) → IsSample list scene i p → IsSample list scene j q → p.x ≡ q.x
+column-in : (list : List (Option ℤ)) (scene : Scene) → Told list scene → (i j : ℕ) (p q : Point) → IsSample list scene i p
+    → IsSample list scene j q → p.x ≡ q.x
     → (y : ℤ) → (p.y ≤ℤ y) ⊎ (q.y ≤ℤ y) → (y ≤ℤ p.y) ⊎ (y ≤ℤ q.y) → InCover scene p.x y
 column-in list scene of i j p q a b same y down up =
     let here = in-column scene q.x p.x j (sym same) b.column in
@@ -163,7 +174,8 @@ segment-within p q order x y (inr (inl flat)) =
     let rows_of = between-rows p.y q.y y (share (columns p q) (rows p q) flat.n) flat.row few in
     record { from = omega (arith, flat.column); to = omega (arith, flat.column, flat.reached, order); above = rows_of.0; below = rows_of.1 }
 segment-within p q order x y (inr (inr steep)) =
-    let few : share (rows p q) (columns p q) steep.n ≤ columns p q = share-le (rows p q) (columns p q) steep.n (omega (arith, steep.high)) steep.reached in
+    let few : share (rows p q) (columns p q) steep.n ≤ columns p q = share-le (rows p q) (columns p q) steep.n
+    (omega (arith, steep.high)) steep.reached in
     let rows_of = between-rows p.y q.y y steep.n steep.row steep.reached in
     record { from = omega (arith, steep.column); to = omega (arith, steep.column, few, order); above = rows_of.0; below = rows_of.1 }
 
@@ -173,7 +185,8 @@ low-of a b c d y h k m = grind (arith, ints, h, k, m)
 high-of : (a b c d y : ℤ) → c ≤ℤ a → d ≤ℤ b → y ≤ℤ int_max c d → y ≤ℤ int_max a b
 high-of a b c d y h k m = grind (arith, ints, h, k, m)
 
-gap-in : (list : List (Option ℤ)) (scene : Scene) → Told list scene → (i j : ℕ) (p q : Point) → IsSample list scene i p → IsSample list scene j q → Gap list scene i j p.x q.x
+gap-in : (list : List (Option ℤ)) (scene : Scene) → Told list scene → (i j : ℕ) (p q : Point) → IsSample list scene i p
+    → IsSample list scene j q → Gap list scene i j p.x q.x
     → (x : ℕ) (y : ℤ) → Within p q x y → InCover scene x y
 gap-in list scene of i j p q a b g x y w =
     let f : HasLast scene g.left.key = last-of of.by scene g.left.key g.left.listed.span g.left.listed.seen in
@@ -207,7 +220,8 @@ last-end list scene i j p q a b order none apart = inr (record {
   none_behind = λ r v less here holds. elim (cases_lt r j) [
     | inl before ↦ none r v less before holds
     | inr late ↦
-        (let at : IsInColumn scene.axis scene.grid p.x j = column-between scene.axis scene.grid p.x i j r (omega (arith, order)) late a.column here in
+        (let at : IsInColumn scene.axis scene.grid p.x j = column-between scene.axis scene.grid p.x i j r
+        (omega (arith, order)) late a.column here in
         absurd (omega (arith, apart, at.place, b.column.place)))
   ];
 })
@@ -221,7 +235,8 @@ first-end list scene i j p q a b order none apart = inl (record {
   none_before = λ r v less here holds. elim (cases_lt i r) [
     | inl behind ↦ none r v behind less holds
     | inr early ↦
-        (let at : IsInColumn scene.axis scene.grid q.x i = column-between scene.axis scene.grid q.x r i j early (omega (arith, order)) here b.column in
+        (let at : IsInColumn scene.axis scene.grid q.x i = column-between scene.axis scene.grid q.x r i j early
+        (omega (arith, order)) here b.column in
         absurd (omega (arith, apart, at.place, a.column.place)))
   ];
 })
@@ -241,9 +256,11 @@ in-cover scene c x y same h = subst (λ (n : ℕ). InCover scene n y) same h
 sample-in : (list : List (Option ℤ)) (scene : Scene) → Told list scene → (x : ℕ) (y : ℤ) → IsOfSample list scene x y → InCover scene x y
 sample-in list scene of x y h =
     in-cover scene h.point.x x y (sym h.pixel.column)
-    (column-in list scene of h.slot h.slot h.point h.point h.sample h.sample refl y (inl (omega (arith, ints, h.pixel.row))) (inl (omega (arith, ints, h.pixel.row))))
+    (column-in list scene of h.slot h.slot h.point h.point h.sample h.sample refl y (inl (omega (arith, ints, h.pixel.row)))
+    (inl (omega (arith, ints, h.pixel.row))))
 
-segment-in : (list : List (Option ℤ)) (scene : Scene) → Told list scene → ColumnsRise scene → (x : ℕ) (y : ℤ) → IsOfSegment list scene x y → InCover scene x y
+segment-in : (list : List (Option ℤ)) (scene : Scene) → Told list scene → ColumnsRise scene → (x : ℕ) (y : ℤ) → IsOfSegment list scene x y
+    → InCover scene x y
 segment-in list scene of rise x y h =
     let p = h.point in
     let q = h.next_point in
@@ -251,34 +268,46 @@ segment-in list scene of rise x y h =
     let w : Within p q x y = segment-within p q order x y h.pixel in
     elim (cases_lt p.x q.x) [
       | inr high ↦ in-cover scene p.x x y (omega (arith, high, w.from, w.to))
-          (column-in list scene of h.slot h.next p q h.sample h.next_sample (omega (arith, high, order)) y (min-cases p.y q.y y w.above) (max-cases p.y q.y y w.below))
+          (column-in list scene of h.slot h.next p q h.sample h.next_sample (omega (arith, high, order)) y (min-cases p.y q.y y w.above)
+          (max-cases p.y q.y y w.below))
       | inl apart ↦ gap-in list scene of h.slot h.next p q h.sample h.next_sample
           (record {
             order = h.order;
             none = h.none_between;
             left = anchored of.by of.sums list scene of.tells of.few p.x h.slot h.sample.value h.sample.stored h.sample.column
                 (last-end list scene h.slot h.next p q h.sample h.next_sample h.order h.none_between apart);
-            right = anchored of.by of.sums list scene of.tells of.few q.x h.next h.next_sample.value h.next_sample.stored h.next_sample.column
+            right = anchored of.by of.sums list scene of.tells of.few q.x h.next h.next_sample.value h.next_sample.stored
+                h.next_sample.column
                 (first-end list scene h.slot h.next p q h.sample h.next_sample h.order h.none_between apart);
             apart = apart;
           })
           x y w
     ]
 
-columns-rise : ((g : Grid) (s t : ℤ) → InWindow g s → InWindow g t → s ≤ℤ t → column g s ≤ column g t) → (scene : Scene) (c d i j : ℕ) → i ≤ j
+columns-rise : ((g : Grid) (s t : ℤ) → InWindow g s → InWindow g t → s ≤ℤ t → column g s ≤ column g t) → (scene : Scene) (c d i j : ℕ)
+    → i ≤ j
     → IsInColumn scene.axis scene.grid c i → IsInColumn scene.axis scene.grid d j → c ≤ d
 columns-rise rise scene c d i j low a b =
-    omega (arith, a.place, b.place, rise scene.grid (slot_time scene.axis i) (slot_time scene.axis j) a.shown b.shown (times-between scene.axis.start scene.axis.step i j low))
+    omega (
+      arith,
+      a.place,
+      b.place,
+      rise scene.grid (slot_time scene.axis i) (slot_time scene.axis j) a.shown b.shown
+          (times-between scene.axis.start scene.axis.step i j low),
+    )
 
 -- what is known of each key is proper where the root is
 abbrev pub AreProper : Type 0
-AreProper = (root : Option Span) (told : Key → Option Coef) (n : ℕ) (k : Key) → IsProperIfAny root → IfSome (known root told n k) IsProperIfAny
+AreProper = (root : Option Span) (told : Key → Option Coef) (n : ℕ) (k : Key) → IsProperIfAny root
+    → IfSome (known root told n k) IsProperIfAny
 
-told-all : Basis → Sums → AreProper → (list : List (Option ℤ)) (scene : Scene) → IsToldOf list scene → length list ≤ 2 ^ 35 → Told list (with_told scene (filled list scene.told))
+told-all : Basis → Sums → AreProper → (list : List (Option ℤ)) (scene : Scene) → IsToldOf list scene → length list ≤ 2 ^ 35
+    → Told list (with_told scene (filled list scene.told))
 told-all by sums proper list scene of few =
     let full : Scene = with_told scene (filled list scene.told) in
     let n : ℕ = length list in
-    let root : IsProperIfAny scene.root = subst (λ (o : Option Span). IsProperIfAny o) (sym of.root) (sums.proper list (first_slot (top_key n)) (end_slot (top_key n)) of.values) in
+    let root : IsProperIfAny scene.root = subst (λ (o : Option Span). IsProperIfAny o) (sym of.root)
+    (sums.proper list (first_slot (top_key n)) (end_slot (top_key n)) of.values) in
     record {
       by = by;
       sums = sums;
@@ -288,7 +317,8 @@ told-all by sums proper list scene of few =
     }
 
 pub holds-chart : Basis → Sums → AreProper → ((g : Grid) (s t : ℤ) → InWindow g s → InWindow g t → s ≤ℤ t → column g s ≤ column g t)
-    → (list : List (Option ℤ)) (scene : Scene) (x : ℕ) (y : ℤ) → IsToldOf list scene → length list ≤ 2 ^ 35 → InChart list scene x y → InCover scene x y
+    → (list : List (Option ℤ)) (scene : Scene) (x : ℕ) (y : ℤ) → IsToldOf list scene → length list ≤ 2 ^ 35 → InChart list scene x y
+    → InCover scene x y
 holds-chart by sums proper rise list scene x y of few h =
     let more = filled list scene.told in
     let full : Scene = with_told scene more in

@@ -1,5 +1,6 @@
 -- What the parts of a walk add to the cover.
-use Rattle.std.proofs.Common.{ℕ, ℤ, zero, suc, pos, ◌≡◌, ◌+◌, ◌-◌, ◌/◌, ◌^◌, ◌<◌, ◌≤◌, ◌≤ℤ◌, ◌⊎◌, inl, inr, Option, None, Some, min, max, refl, sym, ap, ◌∙◌, subst, arith}
+use Rattle.std.proofs.Common.{ℕ, ℤ, zero, suc, pos, ◌≡◌, ◌+◌, ◌-◌, ◌/◌, ◌^◌, ◌<◌, ◌≤◌, ◌≤ℤ◌, ◌⊎◌, inl, inr, Option, None, Some, min, max}
+use Rattle.std.proofs.Common.{refl, sym, ap, ◌∙◌, subst, arith}
 use Rattle.std.specs.Int.{int_min, int_max}
 use Rattle.std.specs.Option.{option_map}
 use Rattle.std.proofs.lemmas.Int.{ints}
@@ -22,7 +23,8 @@ use Rattle.view_cover.specs.Front.{IsLowest, IsInFront, IsFreeBetween, AreConsec
 use Rattle.view_cover.specs.Cover.{bottom, top, InRectangle, InBox}
 use Rattle.view_cover.specs.Walk.{IsReached, AreColumnsIn, IsAreaOf, IsLastBefore, InPart}
 use Rattle.view_cover.proofs.Spans.{Basis, not-known}
-use Rattle.view_cover.proofs.Trees.{peak, above-trans, above-both, level-same, known-under, seen-one, ranges-apart, left-parent, right-parent}
+use Rattle.view_cover.proofs.Trees.{peak, above-trans, above-both, level-same, known-under, seen-one, ranges-apart, left-parent}
+use Rattle.view_cover.proofs.Trees.{right-parent}
 use Rattle.view_cover.proofs.Fronts.{lowest-apart, seen-left, seen-right}
 use Rattle.view_cover.proofs.Shrinking.{drawn-above}
 use Rattle.view_cover.proofs.Ends.{some-slots}
@@ -37,11 +39,13 @@ hull-some None (Some b) s is = inr (b, refl)
 hull-some None None s is = absurd (none-some is)
 
 -- what is above a known key is known
-below-some : (index : ℕ) (p : Option (Option Span)) (c : Option Coef) (o : Option Span) → known_below index p c ≡ Some o → (r : Option Span) × (p ≡ Some r)
+below-some : (index : ℕ) (p : Option (Option Span)) (c : Option Coef) (o : Option Span) → known_below index p c ≡ Some o
+    → (r : Option Span) × (p ≡ Some r)
 below-some index None c o is = absurd (not-known is)
 below-some index (Some r) c o is = (r, refl)
 
-above-some : Basis → (scene : Scene) (w : Key) → w.level ≤ peak scene → (fuel : ℕ) (k : Key) (o : Option Span) → w.level ≤ k.level + fuel → IsAtOrAbove w k
+above-some : Basis → (scene : Scene) (w : Key) → w.level ≤ peak scene → (fuel : ℕ) (k : Key) (o : Option Span) → w.level ≤ k.level + fuel
+    → IsAtOrAbove w k
     → known_in scene k ≡ Some o → (r : Option Span) × (known_in scene w ≡ Some r)
 above-some by scene w high zero k o few above is =
     (o, ap (λ (b : Key). known_in scene b) (level-same w k above (omega (arith, few))) ∙ is)
@@ -51,7 +55,8 @@ above-some by scene w high (suc fuel) k o few above is =
       | inl low ↦
           (let p = below-some k.index (known_in scene (parent_of k)) (scene.told (parent_of k)) o
           (sym (by.below scene.root scene.told (peak scene) k (omega (arith, low, high))) ∙ is) in
-          above-some by scene w high fuel (parent_of k) p.0 (omega (arith, few)) (above-both w (parent_of k) k above (parent-above k) low) p.1)
+          above-some by scene w high fuel (parent_of k) p.0 (omega (arith, few))
+          (above-both w (parent_of k) k above (parent-above k) low) p.1)
     ]
 
 -- nothing is known below a lowest key
@@ -69,12 +74,14 @@ lowest-told : Basis → (scene : Scene) (w : Key) (t : Span) → 1 ≤ w.level �
 lowest-told by scene w t low lowest None is index r found = not-known found
 lowest-told by scene w t low lowest (Some c) is index r found = lowest-split by scene w t c low lowest is (parts t c) refl index r found
 
-lowest-unknown : Basis → (scene : Scene) (w k : Key) (t : Span) (o : Option Span) → IsLowest scene w t → IsAtOrAbove w k → k.level < w.level → known_in scene k ≡ Some o → ⊥
+lowest-unknown : Basis → (scene : Scene) (w k : Key) (t : Span) (o : Option Span) → IsLowest scene w t → IsAtOrAbove w k → k.level < w.level
+    → known_in scene k ≡ Some o → ⊥
 lowest-unknown by scene w k t o lowest above under is =
     let part : Key = record { level = w.level - 1; index = k.index / 2 ^ (w.level - 1 - k.level) } in
     let over : IsAtOrAbove part k = record { higher = omega (arith, under); holds = refl } in
     let found = above-some by scene part (omega (arith, lowest.seen.key.high)) part.level k o (omega arith) over is in
-    let up : IsAtOrAbove w (parent_of part) = above-both w (parent_of part) k above (above-trans (parent_of part) part k (parent-above part) over) (omega (arith, under)) in
+    let up : IsAtOrAbove w (parent_of part) = above-both w (parent_of part) k above
+    (above-trans (parent_of part) part k (parent-above part) over) (omega (arith, under)) in
     let same : parent_of part ≡ w = sym (level-same w (parent_of part) up (omega (arith, under))) in
     lowest-told by scene w t (omega (arith, under)) lowest (scene.told w) refl part.index found.0
     (sym (known-under by scene part w (Some (Some t)) same lowest.seen.key.high lowest.seen.span) ∙ found.1)
@@ -86,13 +93,15 @@ places by scene k o reached m u lowest =
     elim (ranges-apart k m) [
       | inr apart ↦ elim apart [ inl behind ↦ inr (inr behind) | inr before ↦ inr (inl before) ]
       | inl shared ↦ elim (cases_lt k.level m.level) [
-        | inl under ↦ absurd (lowest-unknown by scene m k u o lowest (shared-above m k shared.0 (omega (arith, under)) shared.2 shared.1) under reached.known_so)
+        | inl under ↦ absurd (lowest-unknown by scene m k u o lowest
+            (shared-above m k shared.0 (omega (arith, under)) shared.2 shared.1) under reached.known_so)
         | inr over ↦ inl (shared-above k m shared.0 over shared.1 shared.2)
       ]
     ]
 
 -- where no key of the front lies at or below a key, none lies between its ends
-free-below : Basis → (scene : Scene) (k : Key) (o : Option Span) → IsReached scene k o → ((m : Key) (u : Span) → IsInFront scene m u → IsAtOrAbove k m → ⊥)
+free-below : Basis → (scene : Scene) (k : Key) (o : Option Span) → IsReached scene k o
+    → ((m : Key) (u : Span) → IsInFront scene m u → IsAtOrAbove k m → ⊥)
     → IsFreeBetween scene (first_slot k) (end_slot k)
 free-below by scene k o reached none m u front from to =
     elim (places by scene k o reached m u front.lowest) [
@@ -111,12 +120,15 @@ empty-free by scene k reached =
     empty-some : {v : Span} → ◌≡◌ {A = Option (Option Span)} (Some None) (Some (Some v)) → ⊥
     empty-some h = cc
 
-pub undrawn-free : Basis → (scene : Scene) (k : Key) (o : Option Span) → IsReached scene k o → ((c : ℕ) → IsDrawnIn scene.axis scene.grid k c → ⊥)
+pub undrawn-free : Basis → (scene : Scene) (k : Key) (o : Option Span) → IsReached scene k o
+    → ((c : ℕ) → IsDrawnIn scene.axis scene.grid k c → ⊥)
     → IsFreeBetween scene (first_slot k) (end_slot k)
 undrawn-free by scene k o reached none =
-    free-below by scene k o reached (λ m u front above. none front.column (drawn-above scene.axis scene.grid k m front.column above front.drawn))
+    free-below by scene k o reached (λ m u front above. none front.column
+    (drawn-above scene.axis scene.grid k m front.column above front.drawn))
 
-free-on : Basis → (scene : Scene) (k : Key) (o : Option Span) (a : ℕ) → IsReached scene k o → IsFreeBetween scene a (first_slot k) → IsFreeBetween scene (first_slot k) (end_slot k)
+free-on : Basis → (scene : Scene) (k : Key) (o : Option Span) (a : ℕ) → IsReached scene k o → IsFreeBetween scene a (first_slot k)
+    → IsFreeBetween scene (first_slot k) (end_slot k)
     → IsFreeBetween scene a (end_slot k)
 free-on by scene k o a reached before within m u front from to =
     elim (places by scene k o reached m u front.lowest) [
@@ -128,11 +140,18 @@ free-on by scene k o a reached before within m u front from to =
     ]
 
 -- a part with no key of the front adds nothing
-pub last-free : Basis → (scene : Scene) (k : Key) (o : Option Span) (last : Option Area) → IsReached scene k o → IsFreeBetween scene (first_slot k) (end_slot k)
+pub last-free : Basis → (scene : Scene) (k : Key) (o : Option Span) (last : Option Area) → IsReached scene k o
+    → IsFreeBetween scene (first_slot k) (end_slot k)
     → IsLastBefore scene (first_slot k) last → IsLastBefore scene (end_slot k) last
 last-free by scene k o None reached within before = free-on by scene k o 0 reached before within
-last-free by scene k o (Some area) reached within before =
-    (before.0, before.1, before.2, omega (arith, before.3, some-slots k), free-on by scene k o (end_slot before.0) reached before.4 within, before.5)
+last-free by scene k o (Some area) reached within before = (
+  before.0,
+  before.1,
+  before.2,
+  omega (arith, before.3, some-slots k),
+  free-on by scene k o (end_slot before.0) reached before.4 within,
+  before.5,
+)
 
 pub part-free : (scene : Scene) (a b : ℕ) (c : Canvas) → IsFreeBetween scene a b → Adds (λ x y. InPart scene a b x (pos y)) c c
 part-free scene a b c free =
@@ -164,7 +183,8 @@ wider scene a b p q x y low high (inr j) = inr (record {
 })
 
 -- a key of the front in a range lies in the one or in the other half
-in-half : Basis → (scene : Scene) (k : Key) (o : Option Span) → 1 ≤ k.level → IsReached scene (left_of k) o → (m : Key) (u : Span) → IsInFront scene m u
+in-half : Basis → (scene : Scene) (k : Key) (o : Option Span) → 1 ≤ k.level → IsReached scene (left_of k) o → (m : Key) (u : Span)
+    → IsInFront scene m u
     → first_slot k ≤ first_slot m → end_slot m ≤ end_slot k → (end_slot m ≤ end_slot (left_of k)) ⊎ (end_slot (left_of k) ≤ first_slot m)
 in-half by scene k o low reached m u front from to =
     elim (places by scene (left_of k) o reached m u front.lowest) [
@@ -175,12 +195,27 @@ in-half by scene k o low reached m u front from to =
       ]
     ]
 
-split-part : Basis → (scene : Scene) (k : Key) (o : Option Span) → 1 ≤ k.level → IsReached scene (left_of k) o → (x : ℕ) (y : ℤ) → InPart scene (first_slot k) (end_slot k) x y
+split-part : Basis → (scene : Scene) (k : Key) (o : Option Span) → 1 ≤ k.level → IsReached scene (left_of k) o → (x : ℕ) (y : ℤ)
+    → InPart scene (first_slot k) (end_slot k) x y
     → InPart scene (first_slot (left_of k)) (end_slot (left_of k)) x y ⊎ InPart scene (first_slot (right_of k)) (end_slot (right_of k)) x y
 split-part by scene k o low reached x y (inl s) =
     elim (in-half by scene k o low reached s.key s.span s.front s.from s.to) [
-      | inl early ↦ inl (inl (record { key = s.key; span = s.span; front = s.front; from = omega (arith, s.from, left_first k low); to = early; pixel = s.pixel }))
-      | inr late ↦ inr (inl (record { key = s.key; span = s.span; front = s.front; from = late; to = omega (arith, s.to, right_end k low); pixel = s.pixel }))
+      | inl early ↦ inl (inl (record {
+        key = s.key;
+        span = s.span;
+        front = s.front;
+        from = omega (arith, s.from, left_first k low);
+        to = early;
+        pixel = s.pixel;
+      }))
+      | inr late ↦ inr (inl (record {
+        key = s.key;
+        span = s.span;
+        front = s.front;
+        from = late;
+        to = omega (arith, s.to, right_end k low);
+        pixel = s.pixel;
+      }))
     ]
 split-part by scene k o low reached x y (inr j) =
     elim (in-half by scene k o low reached j.next j.next_span j.next_front j.from j.to) [
@@ -210,8 +245,10 @@ split-part by scene k o low reached x y (inr j) =
       }))
     ]
 
-pub part-halves : Basis → (scene : Scene) (k l r : Key) (o : Option Span) (a b c : Canvas) → 1 ≤ k.level → l ≡ left_of k → r ≡ right_of k → IsReached scene (left_of k) o
-    → Adds (λ x y. InPart scene (first_slot l) (end_slot l) x (pos y)) a b → Adds (λ x y. InPart scene (first_slot r) (end_slot r) x (pos y)) b c
+pub part-halves : Basis → (scene : Scene) (k l r : Key) (o : Option Span) (a b c : Canvas) → 1 ≤ k.level → l ≡ left_of k → r ≡ right_of k
+    → IsReached scene (left_of k) o
+    → Adds (λ x y. InPart scene (first_slot l) (end_slot l) x (pos y)) a b
+    → Adds (λ x y. InPart scene (first_slot r) (end_slot r) x (pos y)) b c
     → Adds (λ x y. InPart scene (first_slot k) (end_slot k) x (pos y)) a c
 part-halves by scene k l r o a b c low l_is r_is reached first second =
     let L : ℕ → ℕ → Type 0 = λ x y. InPart scene (first_slot (left_of k)) (end_slot (left_of k)) x (pos y) in
@@ -225,14 +262,17 @@ part-halves by scene k l r o a b c low l_is r_is reached first second =
     alike (λ x y. L x y ⊎ R x y) (λ x y. InPart scene (first_slot k) (end_slot k) x (pos y)) a c (both L R a b c one two)
     (λ x y column row. (
       (λ h. elim h [
-        | inl e ↦ wider scene (first_slot (left_of k)) (end_slot (left_of k)) (first_slot k) (end_slot k) x (pos y) (omega (arith, from)) (omega (arith, to, right_slots)) e
-        | inr e ↦ wider scene (first_slot (right_of k)) (end_slot (right_of k)) (first_slot k) (end_slot k) x (pos y) (omega (arith, from, left_slots)) (omega (arith, to)) e
+        | inl e ↦ wider scene (first_slot (left_of k)) (end_slot (left_of k)) (first_slot k) (end_slot k) x (pos y) (omega (arith, from))
+            (omega (arith, to, right_slots)) e
+        | inr e ↦ wider scene (first_slot (right_of k)) (end_slot (right_of k)) (first_slot k) (end_slot k) x (pos y)
+            (omega (arith, from, left_slots)) (omega (arith, to)) e
       ]),
       (λ h. split-part by scene k o low reached x (pos y) h),
     ))
 
 -- the only key of the front in the range of a lowest key is that key
-one-front : Basis → (scene : Scene) (k m : Key) (s u : Span) → IsLowest scene k s → IsInFront scene m u → first_slot k ≤ first_slot m → end_slot m ≤ end_slot k → m ≡ k
+one-front : Basis → (scene : Scene) (k m : Key) (s u : Span) → IsLowest scene k s → IsInFront scene m u → first_slot k ≤ first_slot m
+    → end_slot m ≤ end_slot k → m ≡ k
 one-front by scene k m s u lowest front from to =
     elim (lowest-apart by scene m k u s front.lowest lowest) [
       | inl same ↦ same
@@ -243,7 +283,8 @@ one-front by scene k m s u lowest front from to =
     ]
 
 -- the key of the front before another one is the last one
-one-before : Basis → (scene : Scene) (k l m : Key) (s u : Span) → IsInFront scene k s → end_slot k ≤ first_slot l → IsFreeBetween scene (end_slot k) (first_slot l)
+one-before : Basis → (scene : Scene) (k l m : Key) (s u : Span) → IsInFront scene k s → end_slot k ≤ first_slot l
+    → IsFreeBetween scene (end_slot k) (first_slot l)
     → IsInFront scene m u → AreConsecutive scene m l → m ≡ k
 one-before by scene k l m s u front order free front_m next =
     elim (lowest-apart by scene m k u s front_m.lowest front.lowest) [
@@ -263,7 +304,8 @@ left-drawn scene k l a b c d of_k of_l =
       | inr high ↦ (b, inr of_l.left_drawn, omega (arith, high))
     ]
 
-right-drawn : (scene : Scene) (k l : Key) (a b c d : ℕ) → AreColumnsIn scene.axis scene.grid k a c → AreColumnsIn scene.axis scene.grid l b d
+right-drawn : (scene : Scene) (k l : Key) (a b c d : ℕ) → AreColumnsIn scene.axis scene.grid k a c
+    → AreColumnsIn scene.axis scene.grid l b d
     → (n : ℕ) × (IsDrawnIn scene.axis scene.grid k n ⊎ IsDrawnIn scene.axis scene.grid l n) × (max c d ≤ n)
 right-drawn scene k l a b c d of_k of_l =
     elim (cases_lt c d) [
@@ -277,7 +319,8 @@ rows-from a b p q y e f h = grind (arith, ints, e, f, h)
 rows-to : (a b p q y : ℤ) → a ≡ p → b ≡ q → y ≤ℤ int_max a b → y ≤ℤ int_max p q
 rows-to a b p q y e f h = grind (arith, ints, e, f, h)
 
-area-rectangle : (scene : Scene) (k l : Key) (s t : Span) (a b : Area) → IsAreaOf scene k s a → IsAreaOf scene l t b → (x : ℕ) (y : ℤ) → InArea (both_areas a b) x y → InRectangle scene k s l t x y
+area-rectangle : (scene : Scene) (k l : Key) (s t : Span) (a b : Area) → IsAreaOf scene k s a → IsAreaOf scene l t b → (x : ℕ) (y : ℤ)
+    → InArea (both_areas a b) x y → InRectangle scene k s l t x y
 area-rectangle scene k l s t a b of_k of_l x y h =
     let first = left-drawn scene k l a.left b.left a.right b.right of_k.columns of_l.columns in
     let last = right-drawn scene k l a.left b.left a.right b.right of_k.columns of_l.columns in
@@ -294,12 +337,14 @@ area-rectangle scene k l s t a b of_k of_l x y h =
       below = rows-to a.high b.high (top scene s) (top scene t) y of_k.high of_l.high h.below;
     }
 
-drawn-left : (scene : Scene) (k l : Key) (a b c d n : ℕ) → AreColumnsIn scene.axis scene.grid k a c → AreColumnsIn scene.axis scene.grid l b d
+drawn-left : (scene : Scene) (k l : Key) (a b c d n : ℕ) → AreColumnsIn scene.axis scene.grid k a c
+    → AreColumnsIn scene.axis scene.grid l b d
     → IsDrawnIn scene.axis scene.grid k n ⊎ IsDrawnIn scene.axis scene.grid l n → (min a b ≤ n) × (n ≤ max c d)
 drawn-left scene k l a b c d n of_k of_l (inl h) = (omega (arith, of_k.none_left n h), omega (arith, of_k.none_right n h))
 drawn-left scene k l a b c d n of_k of_l (inr h) = (omega (arith, of_l.none_left n h), omega (arith, of_l.none_right n h))
 
-rectangle-area : (scene : Scene) (k l : Key) (s t : Span) (a b : Area) → IsAreaOf scene k s a → IsAreaOf scene l t b → (x : ℕ) (y : ℤ) → InRectangle scene k s l t x y → InArea (both_areas a b) x y
+rectangle-area : (scene : Scene) (k l : Key) (s t : Span) (a b : Area) → IsAreaOf scene k s a → IsAreaOf scene l t b → (x : ℕ) (y : ℤ)
+    → InRectangle scene k s l t x y → InArea (both_areas a b) x y
 rectangle-area scene k l s t a b of_k of_l x y h =
     let first = drawn-left scene k l a.left b.left a.right b.right h.columns.first of_k.columns of_l.columns h.columns.first_drawn in
     let last = drawn-left scene k l a.left b.left a.right b.right h.columns.last of_k.columns of_l.columns h.columns.last_drawn in
@@ -336,12 +381,14 @@ second a b x y h = record {
 }
 
 -- a box of the key m is one of the key k, where both are one
-box-same : (scene : Scene) (k m : Key) (s u : Span) → m ≡ k → IsSeen scene k s → IsSeen scene m u → (x : ℕ) (y : ℤ) → InBox scene m u x y → InBox scene k s x y
+box-same : (scene : Scene) (k m : Key) (s u : Span) → m ≡ k → IsSeen scene k s → IsSeen scene m u → (x : ℕ) (y : ℤ) → InBox scene m u x y
+    → InBox scene k s x y
 box-same scene k m s u same seen_k seen_m x y h =
     let one : IsSeen scene k u = subst (λ (w : Key). IsSeen scene w u) same seen_m in
     subst (λ (v : Span). InBox scene k v x y) (seen-one scene k u s one seen_k) (subst (λ (w : Key). InBox scene w u x y) same h)
 
-join-same : (scene : Scene) (k m l n : Key) (s u t v : Span) → m ≡ k → n ≡ l → IsSeen scene k s → IsSeen scene m u → IsSeen scene l t → IsSeen scene n v → (x : ℕ) (y : ℤ)
+join-same : (scene : Scene) (k m l n : Key) (s u t v : Span) → m ≡ k → n ≡ l → IsSeen scene k s → IsSeen scene m u → IsSeen scene l t
+    → IsSeen scene n v → (x : ℕ) (y : ℤ)
     → InRectangle scene m u n v x y → InRectangle scene k s l t x y
 join-same scene k m l n s u t v same next seen_k seen_m seen_l seen_n x y h =
     let one : IsSeen scene k u = subst (λ (w : Key). IsSeen scene w u) same seen_m in
@@ -352,10 +399,18 @@ join-same scene k m l n s u t v same next seen_k seen_m seen_l seen_n x y h =
     (subst (λ (w : Key). InRectangle scene w u n v x y) same h)))
 
 -- what a lowest key adds, behind the last one before it
-added-to : (scene : Scene) (k : Key) (s : Span) (area : Area) (last : Option Area) → IsInFront scene k s → IsAreaOf scene k s area → IsLastBefore scene (first_slot k) last
+added-to : (scene : Scene) (k : Key) (s : Span) (area : Area) (last : Option Area) → IsInFront scene k s → IsAreaOf scene k s area
+    → IsLastBefore scene (first_slot k) last
     → (x : ℕ) (y : ℤ) → InArea (with_last last area) x y → InPart scene (first_slot k) (end_slot k) x y
 added-to scene k s area None front is before x y h =
-    inl (record { key = k; span = s; front = front; from = omega arith; to = omega arith; pixel = area-rectangle scene k k s s area area is is x y (twice area x y h) })
+    inl (record {
+      key = k;
+      span = s;
+      front = front;
+      from = omega arith;
+      to = omega arith;
+      pixel = area-rectangle scene k k s s area area is is x y (twice area x y h);
+    })
 added-to scene k s area (Some b) front is before x y h =
     inr (record {
       key = before.0;
@@ -370,34 +425,46 @@ added-to scene k s area (Some b) front is before x y h =
       pixel = area-rectangle scene before.0 k before.1 s b area before.5 is x y h;
     })
 
-added-box : (scene : Scene) (k : Key) (s : Span) (area : Area) (last : Option Area) → IsAreaOf scene k s area → (x : ℕ) (y : ℤ) → InBox scene k s x y → InArea (with_last last area) x y
+added-box : (scene : Scene) (k : Key) (s : Span) (area : Area) (last : Option Area) → IsAreaOf scene k s area → (x : ℕ) (y : ℤ)
+    → InBox scene k s x y → InArea (with_last last area) x y
 added-box scene k s area None is x y h = once area x y (rectangle-area scene k k s s area area is is x y h)
 added-box scene k s area (Some b) is x y h = second b area x y (once area x y (rectangle-area scene k k s s area area is is x y h))
 
-added-join : Basis → (scene : Scene) (k : Key) (s : Span) (area : Area) (last : Option Area) → IsInFront scene k s → IsAreaOf scene k s area → IsLastBefore scene (first_slot k) last
-    → (m n : Key) (u v : Span) → n ≡ k → IsInFront scene m u → IsInFront scene n v → AreConsecutive scene m k → (x : ℕ) (y : ℤ) → InRectangle scene m u n v x y → InArea (with_last last area) x y
-added-join by scene k s area None front is before m n u v same front_m front_n next x y h = absurd (before m u front_m (omega arith) next.order)
+added-join : Basis → (scene : Scene) (k : Key) (s : Span) (area : Area) (last : Option Area) → IsInFront scene k s → IsAreaOf scene k s area
+    → IsLastBefore scene (first_slot k) last
+    → (m n : Key) (u v : Span) → n ≡ k → IsInFront scene m u → IsInFront scene n v → AreConsecutive scene m k → (x : ℕ) (y : ℤ)
+    → InRectangle scene m u n v x y → InArea (with_last last area) x y
+added-join by scene k s area None front is before m n u v same front_m front_n next x y h = absurd
+    (before m u front_m (omega arith) next.order)
 added-join by scene k s area (Some b) front is before m n u v same front_m front_n next x y h =
     let one = one-before by scene before.0 k m before.1 u before.2 before.3 before.4 front_m next in
     rectangle-area scene before.0 k before.1 s b area before.5 is x y
-    (join-same scene before.0 m k n before.1 u s v one same before.2.lowest.seen front_m.lowest.seen front.lowest.seen front_n.lowest.seen x y h)
+    (join-same scene before.0 m k n before.1 u s v one same before.2.lowest.seen front_m.lowest.seen front.lowest.seen front_n.lowest.seen x
+    y h)
 
-added-from : Basis → (scene : Scene) (k : Key) (s : Span) (area : Area) (last : Option Area) → IsInFront scene k s → IsAreaOf scene k s area → IsLastBefore scene (first_slot k) last
+added-from : Basis → (scene : Scene) (k : Key) (s : Span) (area : Area) (last : Option Area) → IsInFront scene k s → IsAreaOf scene k s area
+    → IsLastBefore scene (first_slot k) last
     → (x : ℕ) (y : ℤ) → InPart scene (first_slot k) (end_slot k) x y → InArea (with_last last area) x y
 added-from by scene k s area last front is before x y (inl h) =
     added-box scene k s area last is x y
-    (box-same scene k h.key s h.span (one-front by scene k h.key s h.span front.lowest h.front h.from h.to) front.lowest.seen h.front.lowest.seen x y h.pixel)
+    (box-same scene k h.key s h.span (one-front by scene k h.key s h.span front.lowest h.front h.from h.to) front.lowest.seen
+    h.front.lowest.seen x y h.pixel)
 added-from by scene k s area last front is before x y (inr j) =
     let same = one-front by scene k j.next s j.next_span front.lowest j.next_front j.from j.to in
     added-join by scene k s area last front is before j.key j.next j.span j.next_span same j.front j.next_front
     (subst (λ (w : Key). AreConsecutive scene j.key w) same j.consecutive) x y j.pixel
 
-pub part-lowest : Basis → (scene : Scene) (k : Key) (s : Span) (area : Area) (last : Option Area) (a b : Canvas) → IsInFront scene k s → IsAreaOf scene k s area
+pub part-lowest : Basis → (scene : Scene) (k : Key) (s : Span) (area : Area) (last : Option Area) (a b : Canvas) → IsInFront scene k s
+    → IsAreaOf scene k s area
     → IsLastBefore scene (first_slot k) last → Adds (λ x y. InArea (with_last last area) x (pos y)) a b
     → Adds (λ x y. InPart scene (first_slot k) (end_slot k) x (pos y)) a b
 part-lowest by scene k s area last a b front is before drawn =
     alike (λ x y. InArea (with_last last area) x (pos y)) (λ x y. InPart scene (first_slot k) (end_slot k) x (pos y)) a b drawn
-    (λ x y column row. (λ h. added-to scene k s area last front is before x (pos y) h, λ h. added-from by scene k s area last front is before x (pos y) h))
+    (λ x y column row. (
+      λ h. added-to scene k s area last front is before x (pos y) h,
+      λ h. added-from by scene k s area last front is before x (pos y) h,
+    ))
 
-pub last-lowest : (scene : Scene) (k : Key) (s : Span) (area : Area) → IsInFront scene k s → IsAreaOf scene k s area → IsLastBefore scene (end_slot k) (Some area)
+pub last-lowest : (scene : Scene) (k : Key) (s : Span) (area : Area) → IsInFront scene k s → IsAreaOf scene k s area
+    → IsLastBefore scene (end_slot k) (Some area)
 last-lowest scene k s area front is = (k, s, front, omega arith, λ m u front_m from to. absurd (omega (arith, from, to, some-slots m)), is)

@@ -1,5 +1,6 @@
 -- The pixels of a list's chart, by the list's slots.
-use Rattle.std.proofs.Common.{ℕ, ℤ, suc, ◌≡◌, ◌+◌, ◌<◌, ◌≤◌, ◌⊎◌, inl, inr, Bool, true, false, cond, List, [], ◌∷◌, length, Option, None, Some, refl, sym, ap, ◌∙◌, subst, arith}
+use Rattle.std.proofs.Common.{ℕ, ℤ, suc, ◌≡◌, ◌+◌, ◌<◌, ◌≤◌, ◌⊎◌, inl, inr, Bool, true, false, cond, List, [], ◌∷◌, length, Option, None}
+use Rattle.std.proofs.Common.{Some, refl, sym, ap, ◌∙◌, subst, arith}
 use Rattle.std.specs.Prelude.{slice_get, int_le, int_lt}
 use Rattle.std.specs.List.{enumerate_from, filter_map, cons_option}
 use Rattle.std.proofs.lemmas.Bool.{and_parts, and_from, cases_lt}
@@ -55,7 +56,8 @@ abbrev place_at : Scene → ℕ → ℤ → Point
 place_at scene n v = record { x = column scene.grid (slot_time scene.axis n); y = height v scene.lo scene.hi scene.grid.h }
 
 abbrev places_from : Scene → ℕ → List (Option ℤ) → List Point
-places_from scene n xs = places scene.grid (record { lo = scene.lo; hi = scene.hi }) (filter_map (kept_at scene.grid scene.axis) (enumerate_from n xs))
+places_from scene n xs = places scene.grid (record { lo = scene.lo; hi = scene.hi })
+    (filter_map (kept_at scene.grid scene.axis) (enumerate_from n xs))
 
 -- these slots are those of the list from slot n on
 abbrev AreFrom : List (Option ℤ) → ℕ → List (Option ℤ) → Type 0
@@ -94,30 +96,39 @@ bool-cases false = inr refl
 with-kept : (scene : Scene) (n : ℕ) (v : ℤ) (b : Bool) (rest : List Sample) → b ≡ true
     → places scene.grid (record { lo = scene.lo; hi = scene.hi }) (cons_option (cond b (Some (sample_at scene n v)) None) rest)
     ≡ place_at scene n v ∷ places scene.grid (record { lo = scene.lo; hi = scene.hi }) rest
-with-kept scene n v b rest is = ap (λ (t : Bool). places scene.grid (record { lo = scene.lo; hi = scene.hi }) (cons_option (cond t (Some (sample_at scene n v)) None) rest)) is
+with-kept scene n v b rest is = ap (λ (t : Bool). places scene.grid (record { lo = scene.lo; hi = scene.hi })
+    (cons_option (cond t (Some (sample_at scene n v)) None) rest)) is
 
 without-kept : (scene : Scene) (n : ℕ) (v : ℤ) (b : Bool) (rest : List Sample) → b ≡ false
     → places scene.grid (record { lo = scene.lo; hi = scene.hi }) (cons_option (cond b (Some (sample_at scene n v)) None) rest)
     ≡ places scene.grid (record { lo = scene.lo; hi = scene.hi }) rest
-without-kept scene n v b rest is = ap (λ (t : Bool). places scene.grid (record { lo = scene.lo; hi = scene.hi }) (cons_option (cond t (Some (sample_at scene n v)) None) rest)) is
+without-kept scene n v b rest is = ap (λ (t : Bool). places scene.grid (record { lo = scene.lo; hi = scene.hi })
+    (cons_option (cond t (Some (sample_at scene n v)) None) rest)) is
 
 places-kept : (scene : Scene) (n : ℕ) (v : ℤ) (xs : List (Option ℤ)) → in_window scene.grid (slot_time scene.axis n) ≡ true
     → places_from scene n (Some v ∷ xs) ≡ place_at scene n v ∷ places_from scene (n + 1) xs
 places-kept scene n v xs is =
-    with-kept scene n v (in_window scene.grid (slot_time scene.axis n)) (filter_map (kept_at scene.grid scene.axis) (enumerate_from (n + 1) xs)) is
+    with-kept scene n v (in_window scene.grid (slot_time scene.axis n))
+    (filter_map (kept_at scene.grid scene.axis) (enumerate_from (n + 1) xs)) is
 
 places-left : (scene : Scene) (n : ℕ) (v : ℤ) (xs : List (Option ℤ)) → in_window scene.grid (slot_time scene.axis n) ≡ false
     → places_from scene n (Some v ∷ xs) ≡ places_from scene (n + 1) xs
 places-left scene n v xs is =
-    without-kept scene n v (in_window scene.grid (slot_time scene.axis n)) (filter_map (kept_at scene.grid scene.axis) (enumerate_from (n + 1) xs)) is
+    without-kept scene n v (in_window scene.grid (slot_time scene.axis n))
+    (filter_map (kept_at scene.grid scene.axis) (enumerate_from (n + 1) xs)) is
 
 -- a kept slot is a sample
-kept-sample : (list : List (Option ℤ)) (scene : Scene) → scene.axis.slots ≡ length list → (n : ℕ) (v : ℤ) → Holds list n v → in_window scene.grid (slot_time scene.axis n) ≡ true
+kept-sample : (list : List (Option ℤ)) (scene : Scene) → scene.axis.slots ≡ length list → (n : ℕ) (v : ℤ) → Holds list n v
+    → in_window scene.grid (slot_time scene.axis n) ≡ true
     → IsSample list scene n (place_at scene n v)
 kept-sample list scene same n v holds is = record {
   value = v;
   stored = holds;
-  column = record { slot = omega (arith, same, slice_get_within list n (Some v) holds); shown = window-true scene.grid (slot_time scene.axis n) is; place = refl };
+  column = record {
+    slot = omega (arith, same, slice_get_within list n (Some v) holds);
+    shown = window-true scene.grid (slot_time scene.axis n) is;
+    place = refl;
+  };
   row = refl;
 }
 
@@ -137,7 +148,8 @@ same-first h = cc
 no-value : {v : ℤ} → ◌≡◌ {A = Option (Option ℤ)} (Some None) (Some (Some v)) → ⊥
 no-value h = cc
 
-first-later : (list : List (Option ℤ)) (scene : Scene) (n : ℕ) (q : Point) → ((v : ℤ) → Holds list n v → InWindow scene.grid (slot_time scene.axis n) → ⊥)
+first-later : (list : List (Option ℤ)) (scene : Scene) (n : ℕ) (q : Point)
+    → ((v : ℤ) → Holds list n v → InWindow scene.grid (slot_time scene.axis n) → ⊥)
     → IsFirst list scene (n + 1) q → IsFirst list scene n q
 first-later list scene n q not f = record {
   slot = f.slot;
@@ -191,23 +203,29 @@ segment-from list scene n p q sample f x y on = record {
   order = omega (arith, f.from);
   none_between = λ i v low high holds.
       f.none i v (omega (arith, low)) high holds
-      (drawn-between scene.axis scene.grid p.x q.x n i f.slot sample.column f.sample.column (omega (arith, low)) (omega (arith, high))).shown;
+      (drawn-between scene.axis scene.grid p.x q.x n i f.slot sample.column f.sample.column (omega (arith, low))
+      (omega (arith, high))).shown;
   pixel = on;
 }
 
 abbrev ChartsFrom : List (Option ℤ) → Scene → ℕ → ℤ → List (Option ℤ) → ℕ → Type 0
 ChartsFrom list scene x y xs n = AreFrom list n xs → AlongPoints (places_from scene n xs) x y → Charted list scene x y
 
-kept-pixel : (list : List (Option ℤ)) (scene : Scene) → scene.axis.slots ≡ length list → (x : ℕ) (y : ℤ) (xs : List (Option ℤ)) (n : ℕ) (v : ℤ) → AreFrom list (n + 1) xs → ChartsFrom list scene x y xs (n + 1)
-    → IsSample list scene n (place_at scene n v) → AlongPoints (place_at scene n v ∷ places_from scene (n + 1) xs) x y → Charted list scene x y
+kept-pixel : (list : List (Option ℤ)) (scene : Scene) → scene.axis.slots ≡ length list
+    → (x : ℕ) (y : ℤ) (xs : List (Option ℤ)) (n : ℕ) (v : ℤ) → AreFrom list (n + 1) xs → ChartsFrom list scene x y xs (n + 1)
+    → IsSample list scene n (place_at scene n v) → AlongPoints (place_at scene n v ∷ places_from scene (n + 1) xs) x y
+    → Charted list scene x y
 unfolding Charted
-kept-pixel list scene same x y xs n v next rest sample (inl at) = inl (record { slot = n; point = place_at scene n v; sample = sample; pixel = at })
+kept-pixel list scene same x y xs n v next rest sample (inl at) = inl
+    (record { slot = n; point = place_at scene n v; sample = sample; pixel = at })
 kept-pixel list scene same x y xs n v next rest sample (inr (inl on)) =
     let found = next-of (place_at scene n v) (places_from scene (n + 1) xs) x y on in
-    inr (segment-from list scene n (place_at scene n v) found.0 sample (first-place list scene same xs (n + 1) next found.0 found.1 found.2) x y found.3)
+    inr (segment-from list scene n (place_at scene n v) found.0 sample
+    (first-place list scene same xs (n + 1) next found.0 found.1 found.2) x y found.3)
 kept-pixel list scene same x y xs n v next rest sample (inr (inr along)) = rest next along
 
-charted-from : (list : List (Option ℤ)) (scene : Scene) → scene.axis.slots ≡ length list → (x : ℕ) (y : ℤ) (xs : List (Option ℤ)) (n : ℕ) → ChartsFrom list scene x y xs n
+charted-from : (list : List (Option ℤ)) (scene : Scene) → scene.axis.slots ≡ length list → (x : ℕ) (y : ℤ) (xs : List (Option ℤ)) (n : ℕ)
+    → ChartsFrom list scene x y xs n
 charted-from list scene same x y [] n from h = absurd h
 charted-from list scene same x y (None ∷ xs) n from h = charted-from list scene same x y xs (n + 1) (from-next list n None xs from) h
 charted-from list scene same x y (Some v ∷ xs) n from h =
@@ -220,7 +238,8 @@ charted-from list scene same x y (Some v ∷ xs) n from h =
           (subst (λ (ps : List Point). AlongPoints ps x y) (places-kept scene n v xs shown) h)
     ]
 
-pub charted : (list : List (Option ℤ)) (scene : Scene) → scene.axis.slots ≡ length list → (x : ℕ) (y : ℤ) → InChart list scene x y → IsOfSample list scene x y ⊎ IsOfSegment list scene x y
+pub charted : (list : List (Option ℤ)) (scene : Scene) → scene.axis.slots ≡ length list → (x : ℕ) (y : ℤ) → InChart list scene x y
+    → IsOfSample list scene x y ⊎ IsOfSegment list scene x y
 unfolding Charted
 charted list scene same x y h =
     charted-from list scene same x y list 0 (λ i. ap (λ (m : ℕ). slice_get list m) (zero-plus i))

@@ -1,5 +1,6 @@
 -- Spans of keys and of those above them.
-use Rattle.std.proofs.Common.{ℕ, ℤ, zero, suc, ◌≡◌, ◌-◌, ◌/◌, ◌%◌, ◌≤◌, ◌<◌, ◌≤ℤ◌, inl, inr, Option, None, Some, refl, sym, ap, ◌∙◌, subst, arith}
+use Rattle.std.proofs.Common.{ℕ, ℤ, zero, suc, ◌≡◌, ◌-◌, ◌/◌, ◌%◌, ◌≤◌, ◌<◌, ◌≤ℤ◌, inl, inr, Option, None, Some, refl, sym, ap, ◌∙◌, subst}
+use Rattle.std.proofs.Common.{arith}
 use Rattle.std.specs.Option.{option_map}
 use Rattle.std.proofs.lemmas.Bool.{cases_eq}
 use Rattle.std.proofs.lemmas.Int.{ints}
@@ -80,12 +81,14 @@ parts-part : PartsJoin → PartsProper → (index : ℕ) (s t : Span) (c : Coef)
 parts-part join proper index s t c None is chosen = absurd (not-known chosen)
 parts-part join proper index s t c (Some (l, r)) is chosen = halves-part join proper index s t c l r is (inner chosen)
 
-told-part : PartsJoin → PartsProper → (index : ℕ) (s t : Span) (c : Option Coef) → known_below index (Some (Some t)) c ≡ Some (Some s) → IsPart s t
+told-part : PartsJoin → PartsProper → (index : ℕ) (s t : Span) (c : Option Coef) → known_below index (Some (Some t)) c ≡ Some (Some s)
+    → IsPart s t
 told-part join proper index s t None is = absurd (not-known is)
 told-part join proper index s t (Some c) is = parts-part join proper index s t c (parts t c) refl is
 
 -- where a key's span is seen, that of the key above it is, and holds it
-pub parent-seen : PartsJoin → PartsProper → (index : ℕ) (p : Option (Option Span)) (c : Option Coef) (s : Span) → known_below index p c ≡ Some (Some s)
+pub parent-seen : PartsJoin → PartsProper → (index : ℕ) (p : Option (Option Span)) (c : Option Coef) (s : Span)
+    → known_below index p c ≡ Some (Some s)
     → (t : Span) × (p ≡ Some (Some t)) × IsPart s t
 parent-seen join proper index None c s is = absurd (not-known is)
 parent-seen join proper index (Some None) c s is = absurd (not-empty is)
@@ -96,22 +99,26 @@ mono-below : (index : ℕ) (p q : Option (Option Span)) (c d : Option Coef) (o :
     → ((r : Option Span) → p ≡ Some r → q ≡ Some r) → ((e : Coef) → c ≡ Some e → d ≡ Some e)
     → known_below index p c ≡ Some o → known_below index q d ≡ Some o
 mono-below index None q c d o of_p of_c is = absurd (not-known is)
-mono-below index (Some None) q c d o of_p of_c is = subst (λ (r : Option (Option Span)). known_below index r d ≡ Some o) (sym (of_p None refl)) is
+mono-below index (Some None) q c d o of_p of_c is = subst (λ (r : Option (Option Span)). known_below index r d ≡ Some o)
+    (sym (of_p None refl)) is
 mono-below index (Some (Some s)) q None d o of_p of_c is = absurd (not-known is)
 mono-below index (Some (Some s)) q (Some e) d o of_p of_c is =
     subst (λ (r : Option (Option Span)). known_below index r d ≡ Some o) (sym (of_p (Some s) refl))
     (subst (λ (f : Option Coef). known_below index (Some (Some s)) f ≡ Some o) (sym (of_c e refl)) is)
 
-more-from : (root : Option Span) (told more : Key → Option Coef) → ((k : Key) (c : Coef) → told k ≡ Some c → more k ≡ Some c) → (depth level index : ℕ) (o : Option Span)
+more-from : (root : Option Span) (told more : Key → Option Coef) → ((k : Key) (c : Coef) → told k ≡ Some c → more k ≡ Some c)
+    → (depth level index : ℕ) (o : Option Span)
     → known_from root told depth level index ≡ Some o → known_from root more depth level index ≡ Some o
 unfolding known_from
 more-from root told more tells zero level index o is = is
 more-from root told more tells (suc depth) level index o is =
     let above : Key = record { level = suc level; index = index / 2 } in
-    mono-below index (known_from root told depth (suc level) (index / 2)) (known_from root more depth (suc level) (index / 2)) (told above) (more above) o
+    mono-below index (known_from root told depth (suc level) (index / 2)) (known_from root more depth (suc level) (index / 2)) (told above)
+    (more above) o
     (λ r h. more-from root told more tells depth (suc level) (index / 2) r h) (λ e h. tells above e h) is
 
-pub known-more : (root : Option Span) (told more : Key → Option Coef) → ((k : Key) (c : Coef) → told k ≡ Some c → more k ≡ Some c) → (top : ℕ) (k : Key) (o : Option Span)
+pub known-more : (root : Option Span) (told more : Key → Option Coef) → ((k : Key) (c : Coef) → told k ≡ Some c → more k ≡ Some c)
+    → (top : ℕ) (k : Key) (o : Option Span)
     → known root told top k ≡ Some o → known root more top k ≡ Some o
 known-more root told more tells top k o is = more-from root told more tells (top - k.level) k.level k.index o is
 

@@ -1,5 +1,6 @@
 -- The steps of the walk.
-use Rattle.std.proofs.Common.{ℕ, ℤ, pos, ◌≡◌, ◌+◌, ◌-◌, ◌*◌, ◌^◌, ◌<◌, ◌≤◌, ◌≤ℤ◌, inl, inr, Option, None, Some, true, false, IsTrue, sym, ap, ◌∙◌, subst, arith}
+use Rattle.std.proofs.Common.{ℕ, ℤ, pos, ◌≡◌, ◌+◌, ◌-◌, ◌*◌, ◌^◌, ◌<◌, ◌≤◌, ◌≤ℤ◌, inl, inr, Option, None, Some, true, false, IsTrue, sym}
+use Rattle.std.proofs.Common.{ap, ◌∙◌, subst, arith}
 use Rattle.std.specs.Prelude.{IfSome}
 use Rattle.std.proofs.lemmas.Int.{ints}
 use Rattle.chart_grid.specs.declared.axis.Axis.{Axis}
@@ -25,7 +26,8 @@ use Rattle.view_cover.specs.Walk.{IsCoverOf, IsReached, AreColumnsIn, IsAreaOf, 
 use Rattle.view_cover.proofs.Spans.{Basis, left-half, right-half}
 use Rattle.view_cover.proofs.Trees.{peak, left-key, right-key, left-parent, right-parent, known-under}
 
-pub reached-left : Basis → (scene : Scene) (k : Key) (s : Span) (c : Coef) (halves : Option Span × Option Span) → 1 ≤ k.level → IsReached scene k (Some s) → scene.told k ≡ Some c
+pub reached-left : Basis → (scene : Scene) (k : Key) (s : Span) (c : Coef) (halves : Option Span × Option Span) → 1 ≤ k.level
+    → IsReached scene k (Some s) → scene.told k ≡ Some c
     → parts s c ≡ Some halves → IsReached scene (left_of k) halves.0
 reached-left by scene k s c halves low reached is split = record {
   key = left-key (peak scene) k reached.key low;
@@ -35,7 +37,8 @@ reached-left by scene k s c halves low reached is split = record {
       ∙ ap (λ (o : Option Span). Some o) (left-half (2 * k.index) halves.0 halves.1 (omega arith));
 }
 
-pub reached-right : Basis → (scene : Scene) (k : Key) (s : Span) (c : Coef) (halves : Option Span × Option Span) → 1 ≤ k.level → IsReached scene k (Some s) → scene.told k ≡ Some c
+pub reached-right : Basis → (scene : Scene) (k : Key) (s : Span) (c : Coef) (halves : Option Span × Option Span) → 1 ≤ k.level
+    → IsReached scene k (Some s) → scene.told k ≡ Some c
     → parts s c ≡ Some halves → IsReached scene (right_of k) halves.1
 reached-right by scene k s c halves low reached is split = record {
   key = right-key (peak scene) k reached.key low;
@@ -60,7 +63,8 @@ pub last-at : (scene : Scene) (a b : ℕ) (last : Option Area) → a ≡ b → I
 last-at scene a b last is before = subst (λ (e : ℕ). IsLastBefore scene e last) is before
 
 -- the span of a reached key is ordered
-pub reached-order : ((root : Option Span) (told : Key → Option Coef) (top : ℕ) (k : Key) → IsProperIfAny root → IfSome (known root told top k) IsProperIfAny)
+pub reached-order : ((root : Option Span) (told : Key → Option Coef) (top : ℕ) (k : Key) → IsProperIfAny root
+    → IfSome (known root told top k) IsProperIfAny)
     → (scene : Scene) (k : Key) (s : Span) → IsProperIfAny scene.root → IsReached scene k (Some s) → s.min ≤ℤ s.max
 reached-order proper scene k s root reached =
     let h : IfSome (known_in scene k) IsProperIfAny = proper scene.root scene.told (peak scene) k root in
@@ -74,23 +78,32 @@ low-high a b p q e f h = omega (arith, ints, e, f, h)
 pub drawn-below : (axis : Axis) (grid : Grid) (k : Key) (c : ℕ) → IsDrawnIn axis grid k c → c < grid.w
 drawn-below axis grid k c h = omega (arith, h.in_column.place, column-below grid (slot_time axis h.slot) h.in_column.shown)
 
-pub last-within : (scene : Scene) (e n : ℕ) (last : Option Area) → n ≡ scene.grid.w → IsLastBefore scene e last → IfSome last (λ before. before.right < n)
+pub last-within : (scene : Scene) (e n : ℕ) (last : Option Area) → n ≡ scene.grid.w → IsLastBefore scene e last
+    → IfSome last (λ before. before.right < n)
 last-within scene e n None is before = tt
-last-within scene e n (Some area) is before = omega (arith, is, drawn-below scene.axis scene.grid before.0 area.right before.5.columns.right_drawn)
+last-within scene e n (Some area) is before = omega (
+  arith,
+  is,
+  drawn-below scene.axis scene.grid before.0 area.right before.5.columns.right_drawn,
+)
 
-pub area-is : (scene : Scene) (k : Key) (s : Span) (a : Area) (left right : ℕ) → AreColumnsIn scene.axis scene.grid k left right → a.left ≡ left → a.right ≡ right
+pub area-is : (scene : Scene) (k : Key) (s : Span) (a : Area) (left right : ℕ) → AreColumnsIn scene.axis scene.grid k left right
+    → a.left ≡ left → a.right ≡ right
     → a.low ≡ bottom scene s → a.high ≡ top scene s → IsAreaOf scene k s a
 area-is scene k s a left right columns left_is right_is low high = record {
-  columns = subst (λ (n : ℕ). AreColumnsIn scene.axis scene.grid k a.left n) (sym right_is) (subst (λ (n : ℕ). AreColumnsIn scene.axis scene.grid k n right) (sym left_is) columns);
+  columns = subst (λ (n : ℕ). AreColumnsIn scene.axis scene.grid k a.left n) (sym right_is)
+      (subst (λ (n : ℕ). AreColumnsIn scene.axis scene.grid k n right) (sym left_is) columns);
   low = low;
   high = high;
 }
 
-pub front-is : (scene : Scene) (k : Key) (s : Span) (left right : ℕ) → IsLowest scene k s → AreColumnsIn scene.axis scene.grid k left right → IsInFront scene k s
+pub front-is : (scene : Scene) (k : Key) (s : Span) (left right : ℕ) → IsLowest scene k s → AreColumnsIn scene.axis scene.grid k left right
+    → IsInFront scene k s
 front-is scene k s left right lowest columns = record { lowest = lowest; column = left; drawn = columns.left_drawn }
 
 -- the walk begins at the top
-pub top-reached : ((root : Option Span) (told : Key → Option Coef) (n : ℕ) → known root told (height_of n) (top_key n) ≡ Some root) → (scene : Scene) → IsReached scene (top_key scene.axis.slots) scene.root
+pub top-reached : ((root : Option Span) (told : Key → Option Coef) (n : ℕ) → known root told (height_of n) (top_key n) ≡ Some root)
+    → (scene : Scene) → IsReached scene (top_key scene.axis.slots) scene.root
 top-reached known_top scene = record {
   key = record { high = omega arith; within = power (peak scene - peak scene) };
   known_so = known_top scene.root scene.told scene.axis.slots;
@@ -102,7 +115,8 @@ top-reached known_top scene = record {
 pub top-last : (scene : Scene) → IsLastBefore scene (first_slot (top_key scene.axis.slots)) None
 top-last scene m u front from to = absurd (omega (arith, to, (first-in_range m).to))
 
-whole-part : (scene : Scene) (x : ℕ) (y : ℤ) → InCover scene x y → InPart scene (first_slot (top_key scene.axis.slots)) (end_slot (top_key scene.axis.slots)) x y
+whole-part : (scene : Scene) (x : ℕ) (y : ℤ) → InCover scene x y
+    → InPart scene (first_slot (top_key scene.axis.slots)) (end_slot (top_key scene.axis.slots)) x y
 whole-part scene x y (inl b) =
     inl (record {
       key = b.key;
@@ -144,7 +158,8 @@ not-black c x y white black = let t : false ≡ true = sym white ∙ black in cc
 
 -- what the whole walk draws on a white canvas is the cover
 covered : (scene : Scene) (w h : ℕ) (blank drawn : Canvas) → w ≡ scene.grid.w → h ≡ scene.grid.h → IsBlank w h blank
-    → Adds (λ x y. InPart scene (first_slot (top_key scene.axis.slots)) (end_slot (top_key scene.axis.slots)) x (pos y)) blank drawn → IsCoverOf scene drawn
+    → Adds (λ x y. InPart scene (first_slot (top_key scene.axis.slots)) (end_slot (top_key scene.axis.slots)) x (pos y)) blank drawn
+    → IsCoverOf scene drawn
 covered scene w h blank drawn wide tall is_blank adds = record {
   wide = adds.width ∙ is_blank.width ∙ wide;
   high = adds.height ∙ is_blank.height ∙ tall;
@@ -153,12 +168,17 @@ covered scene w h blank drawn wide tall is_blank adds = record {
       let below : y < blank.h = omega (arith, row, is_blank.height, tall) in
       let p = adds.pixels x y inside below in
       let white = is_blank.white x y (omega (arith, column, wide)) (omega (arith, row, tall)) in (
-        (λ black. elim (p.0 black) [ inl old ↦ absurd (not-black blank x y white old) | inr set ↦ part-whole scene (first_slot (top_key scene.axis.slots)) (end_slot (top_key scene.axis.slots)) x (pos y) set ]),
+        (λ black. elim (p.0 black) [
+          | inl old ↦ absurd (not-black blank x y white old)
+          | inr set ↦ part-whole scene
+              (first_slot (top_key scene.axis.slots)) (end_slot (top_key scene.axis.slots)) x (pos y) set
+        ]),
         (λ set. p.1 (inr (whole-part scene x (pos y) set))),
       );
 }
 
-pub covered-by : (scene : Scene) (w h : ℕ) (key : Key) (blank drawn : Canvas) → w ≡ scene.grid.w → h ≡ scene.grid.h → key ≡ top_key scene.axis.slots → IsBlank w h blank
+pub covered-by : (scene : Scene) (w h : ℕ) (key : Key) (blank drawn : Canvas) → w ≡ scene.grid.w → h ≡ scene.grid.h
+    → key ≡ top_key scene.axis.slots → IsBlank w h blank
     → Adds (λ x y. InPart scene (first_slot key) (end_slot key) x (pos y)) blank drawn → IsCoverOf scene drawn
 covered-by scene w h key blank drawn wide tall is is_blank adds =
     covered scene w h blank drawn wide tall is_blank

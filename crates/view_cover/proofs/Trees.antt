@@ -1,5 +1,6 @@
 -- Keys that are seen, and those above and below them.
-use Rattle.std.proofs.Common.{ℕ, zero, suc, ◌≡◌, ◌+◌, ◌-◌, ◌*◌, ◌/◌, ◌^◌, ◌<◌, ◌≤◌, ◌⊎◌, inl, inr, Option, Some, refl, sym, ap, ◌∙◌, subst, arith}
+use Rattle.std.proofs.Common.{ℕ, zero, suc, ◌≡◌, ◌+◌, ◌-◌, ◌*◌, ◌/◌, ◌^◌, ◌<◌, ◌≤◌, ◌⊎◌, inl, inr, Option, Some, refl, sym, ap, ◌∙◌, subst}
+use Rattle.std.proofs.Common.{arith}
 use Rattle.std.proofs.lemmas.Bool.{cases_lt}
 use Rattle.std.proofs.lemmas.Nat.{pow-add}
 use Rattle.om3_coeff.specs.declared.key.Key.{Key}
@@ -28,7 +29,8 @@ above-same k = shared-above k k (first_slot k) (omega arith) (first-in_range k) 
 -- of two keys above a third one the higher one lies above the other
 pub above-both : (w p k : Key) → IsAtOrAbove w k → IsAtOrAbove p k → p.level ≤ w.level → IsAtOrAbove w p
 above-both w p k a b low =
-    shared-above w p (first_slot k) low (above-in_range w k (first_slot k) a (first-in_range k)) (above-in_range p k (first_slot k) b (first-in_range k))
+    shared-above w p (first_slot k) low (above-in_range w k (first_slot k) a (first-in_range k))
+    (above-in_range p k (first_slot k) b (first-in_range k))
 
 pub level-same : (w k : Key) → IsAtOrAbove w k → w.level ≤ k.level → w ≡ k
 level-same w k above low =
@@ -48,7 +50,8 @@ parent-key top k key low =
     let e : top - k.level ≡ suc (top - suc k.level) = omega (arith, low) in
     record {
       high = low;
-      within = halve k.index (2 ^ (top - suc k.level)) (subst (λ n. k.index < n) (ap (λ n. 2 ^ n) e ∙ double (top - suc k.level)) key.within);
+      within = halve k.index (2 ^ (top - suc k.level))
+          (subst (λ n. k.index < n) (ap (λ n. 2 ^ n) e ∙ double (top - suc k.level)) key.within);
     }
 
 part-key : (top n : ℕ) (k part : Key) → IsKey top k → k.level ≡ suc n → part.level ≡ n → part.index < (k.index + 1) * 2 → IsKey top part
@@ -79,7 +82,8 @@ pub right-above : (k : Key) → 1 ≤ k.level → IsAtOrAbove k (right_of k)
 right-above k low = subst (λ (w : Key). IsAtOrAbove w (right_of k)) (right-parent k low) (parent-above (right_of k))
 
 -- what is known of a key below a known one
-pub known-under : Basis → (scene : Scene) (k p : Key) (o : Option (Option Span)) → parent_of k ≡ p → p.level ≤ peak scene → known_in scene p ≡ o
+pub known-under : Basis → (scene : Scene) (k p : Key) (o : Option (Option Span)) → parent_of k ≡ p → p.level ≤ peak scene
+    → known_in scene p ≡ o
     → known_in scene k ≡ known_below k.index o (scene.told p)
 known-under by scene k p o up high is =
     by.below scene.root scene.told (peak scene) k (omega (arith, high, ap (λ (b : Key). b.level) up))
@@ -87,8 +91,12 @@ known-under by scene k p o up high is =
     ∙ ap (λ (r : Option (Option Span)). known_below k.index r (scene.told p)) is
 
 -- more coefficients show no less
-pub seen-more : (scene : Scene) (more : Key → Option Coef) → IsToldBy scene.told more → (k : Key) (s : Span) → IsSeen scene k s → IsSeen (with_told scene more) k s
-seen-more scene more tells k s seen = record { key = seen.key; span = known-more scene.root scene.told more tells (peak scene) k (Some s) seen.span }
+pub seen-more : (scene : Scene) (more : Key → Option Coef) → IsToldBy scene.told more → (k : Key) (s : Span) → IsSeen scene k s
+    → IsSeen (with_told scene more) k s
+seen-more scene more tells k s seen = record {
+  key = seen.key;
+  span = known-more scene.root scene.told more tells (peak scene) k (Some s) seen.span;
+}
 
 -- the key above a seen one is seen, with a span that holds the other
 pub seen-parent : Basis → (scene : Scene) (k : Key) (s : Span) → k.level < peak scene → IsSeen scene k s
@@ -99,7 +107,8 @@ seen-parent by scene k s low seen =
     (up.0, record { key = parent-key (peak scene) k seen.key low; span = up.1 }, up.2)
 
 -- so are all keys above it
-above-seen : Basis → (scene : Scene) (w : Key) → w.level ≤ peak scene → (fuel : ℕ) (k : Key) (s : Span) → w.level ≤ k.level + fuel → IsAtOrAbove w k
+above-seen : Basis → (scene : Scene) (w : Key) → w.level ≤ peak scene → (fuel : ℕ) (k : Key) (s : Span) → w.level ≤ k.level + fuel
+    → IsAtOrAbove w k
     → IsSeen scene k s → (t : Span) × IsSeen scene w t × IsPart s t
 above-seen by scene w high zero k s few above seen =
     let same : k ≡ w = sym (level-same w k above (omega (arith, few))) in
@@ -111,7 +120,8 @@ above-seen by scene w high (suc fuel) k s few above seen =
           (s, subst (λ (b : Key). IsSeen scene b s) e seen, part-same s))
       | inl low ↦
           (let p = seen-parent by scene k s (omega (arith, low, high)) seen in
-          let r = above-seen by scene w high fuel (parent_of k) p.0 (omega (arith, few)) (above-both w (parent_of k) k above (parent-above k) low) p.1 in
+          let r = above-seen by scene w high fuel (parent_of k) p.0 (omega (arith, few))
+          (above-both w (parent_of k) k above (parent-above k) low) p.1 in
           (r.0, r.1, part-trans s p.0 r.0 p.2 r.2))
     ]
 

@@ -48,7 +48,8 @@ fn draw_below<T: Teller>(
     requires wide { bitmap.old.w ≡ scope.now.grid.w }
     requires fit { T.fit teller.now }
     ensures last { IsLastBefore (scene_of scope.now (T.told teller.now)) (end_slot key) result }
-    ensures drawn { Adds (λ x y. InPart (scene_of scope.now (T.told teller.now)) (first_slot key) (end_slot key) x (pos y)) bitmap.old bitmap.new }
+    ensures drawn { Adds (λ x y. InPart (scene_of scope.now (T.told teller.now)) (first_slot key) (end_slot key) x (pos y)) bitmap.old
+        bitmap.new }
 {
     heights_rise();
     ranges_hold_those_below();

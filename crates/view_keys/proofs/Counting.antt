@@ -108,7 +108,8 @@ all-closed join below seen axis grid c k s high is within none =
       | inr unclear ↦ absurd (none j r (within j r, unclear))
     ])) ∙ is)
 
-before-marked : PartsJoin → Below → (seen : Seen) (axis : Axis) (grid : Grid) (c : ℕ) (k : Key) (s : Span) → c < grid.w → k.level ≤ height axis.slots
+before-marked : PartsJoin → Below → (seen : Seen) (axis : Axis) (grid : Grid) (c : ℕ) (k : Key) (s : Span) → c < grid.w
+    → k.level ≤ height axis.slots
     → known seen.root seen.told (height axis.slots) k ≡ Some (Some s) → IsWithin axis grid c k → IsClearBefore seen axis grid c k
     → (tag : ℕ) × Marked (IsOpen seen axis) axis grid k tag
 before-marked join below seen axis grid c k s shown high is within clear =
@@ -125,7 +126,8 @@ before-marked join below seen axis grid c k s shown high is within clear =
           (record { in_column = found.2.0.0; kind = found.2.0.1; none_before = λ j low here unclear. found.2.1 j low (here, unclear) })
     ]
 
-behind-marked : PartsJoin → Below → (seen : Seen) (axis : Axis) (grid : Grid) (c : ℕ) (k : Key) (s : Span) → c < grid.w → k.level ≤ height axis.slots
+behind-marked : PartsJoin → Below → (seen : Seen) (axis : Axis) (grid : Grid) (c : ℕ) (k : Key) (s : Span) → c < grid.w
+    → k.level ≤ height axis.slots
     → known seen.root seen.told (height axis.slots) k ≡ Some (Some s) → IsWithin axis grid c k → IsClearBehind seen axis grid c k
     → (tag : ℕ) × Marked (IsOpen seen axis) axis grid k tag
 behind-marked join below seen axis grid c k s shown high is within clear =
@@ -143,11 +145,16 @@ behind-marked join below seen axis grid c k s shown high is within clear =
               | inr past ↦ absurd (found.2.0.1 (clear found.0 found.2.0.0 past))
             ];
           })
-          (record { in_column = found.2.0.0; kind = found.2.0.1; none_behind = λ j low here unclear. found.2.1 j low here.slot (here, unclear) })
+          (record {
+            in_column = found.2.0.0;
+            kind = found.2.0.1;
+            none_behind = λ j low here unclear. found.2.1 j low here.slot (here, unclear);
+          })
     ]
 
 -- a wanted key holds a border, or the first or the last slot of a column that isn't known to hold nothing
-wanted-marked : Borders → PartsJoin → Below → (seen : Seen) (axis : Axis) (grid : Grid) (lo hi : ℤ) (k : Key) → IsWanted seen axis grid lo hi k
+wanted-marked : Borders → PartsJoin → Below → (seen : Seen) (axis : Axis) (grid : Grid) (lo hi : ℤ) (k : Key)
+    → IsWanted seen axis grid lo hi k
     → HoldsMark (IsOpen seen axis) axis grid (height axis.slots) k
 wanted-marked borders join below seen axis grid lo hi k w = (
   w.node,
@@ -160,7 +167,8 @@ wanted-marked borders join below seen axis grid lo hi k w = (
   ],
 )
 
-pub few-wanted : Borders → PartsJoin → Below → (seen : Seen) (axis : Axis) (grid : Grid) (lo hi : ℤ) (es : List (Key × Coef)) → AreInOrder es
+pub few-wanted : Borders → PartsJoin → Below → (seen : Seen) (axis : Axis) (grid : Grid) (lo hi : ℤ) (es : List (Key × Coef))
+    → AreInOrder es
     → All (λ e. IsWanted seen axis grid lo hi e.0) es → length es ≤ (3 * grid.w + 1) * height axis.slots
 few-wanted borders join below seen axis grid lo hi es order wanted =
     few (IsOpen seen axis) axis grid (height axis.slots) es order

@@ -1,5 +1,6 @@
 -- Stored slots: which key's range has one, and the first and the last of a kind.
-use Rattle.std.proofs.Common.{ℕ, ℤ, zero, suc, ◌≡◌, ◌<◌, ◌≤◌, ◌⊎◌, inl, inr, List, length, Option, None, Some, IsSome, slice_get, refl, sym, ◌∙◌, subst, arith}
+use Rattle.std.proofs.Common.{ℕ, ℤ, zero, suc, ◌≡◌, ◌<◌, ◌≤◌, ◌⊎◌, inl, inr, List, length, Option, None, Some, IsSome, slice_get, refl, sym}
+use Rattle.std.proofs.Common.{◌∙◌, subst, arith}
 use Rattle.std.proofs.lemmas.Bool.{cases_lt, cases_eq}
 use Rattle.std.proofs.lemmas.Option.{slice_get_within}
 use Rattle.om3_coeff.specs.declared.key.Key.{Key}
@@ -12,7 +13,8 @@ use Rattle.view_keys.specs.Ranges.{IsInRange}
 abbrev pub IsStoredAt : List (Option ℤ) → ℕ → Type 0
 IsStoredAt list i = (v : ℤ) × Holds list i v
 
-stored-by : (list : List (Option ℤ)) (i : ℕ) (slot : Option (Option ℤ)) → slice_get list i ≡ slot → IsStoredAt list i ⊎ (IsStoredAt list i → ⊥)
+stored-by : (list : List (Option ℤ)) (i : ℕ) (slot : Option (Option ℤ)) → slice_get list i ≡ slot
+    → IsStoredAt list i ⊎ (IsStoredAt list i → ⊥)
 stored-by list i (Some (Some v)) is = inl (v, is)
 stored-by list i (Some None) is = inr (λ (h : IsStoredAt list i). absurd (other (sym is ∙ h.1)))
   where

@@ -65,7 +65,8 @@ uneven-by list lo hi h w k rise extremes above (Some s) is some uneven =
 -- what lies above a stored key that isn't flat isn't
 pub uneven-above : (list : List (Option ℤ)) (lo hi : ℤ) (h : ℕ) (w k : Key) → HeightsRise → Extremes list → IsAtOrAbove w k
     → IsSome (span list k) → IsUneven list lo hi h k → IsUneven list lo hi h w
-uneven-above list lo hi h w k rise extremes above some uneven = uneven-by list lo hi h w k rise extremes above (span list k) refl some uneven
+uneven-above list lo hi h w k rise extremes above some uneven = uneven-by list lo hi h w k rise extremes above
+    (span list k) refl some uneven
 
 left-inside : (s t : Span) (o : Option Span) → IsProperIfAny (Some s) → hull (Some s) o ≡ Some t → IsInside s t
 left-inside s t None proper is = grind (arith, ints, proper.ordered, is)
@@ -106,7 +107,8 @@ parts-inside : PartsJoin → PartsProper → (index : ℕ) (s t : Span) (c : Coe
 parts-inside join proper index s t c None is chosen = absurd (not-some chosen)
 parts-inside join proper index s t c (Some (l, r)) is chosen = halves-inside join proper index s t c l r is (inner chosen)
 
-told-inside : PartsJoin → PartsProper → (index : ℕ) (s t : Span) (c : Option Coef) → known_below index (Some (Some t)) c ≡ Some (Some s) → IsInside s t
+told-inside : PartsJoin → PartsProper → (index : ℕ) (s t : Span) (c : Option Coef) → known_below index (Some (Some t)) c ≡ Some (Some s)
+    → IsInside s t
 told-inside join proper index s t None is = absurd (not-some is)
 told-inside join proper index s t (Some c) is = parts-inside join proper index s t c (parts t c) refl is
 
@@ -114,7 +116,8 @@ none-apart : {s : Span} → ◌≡◌ {A = Option (Option Span)} (Some None) (So
 none-apart h = cc
 
 -- where a key's span is seen, that of the key above it is, and holds it
-pub parent-seen : PartsJoin → PartsProper → (index : ℕ) (p : Option (Option Span)) (c : Option Coef) (s : Span) → known_below index p c ≡ Some (Some s)
+pub parent-seen : PartsJoin → PartsProper → (index : ℕ) (p : Option (Option Span)) (c : Option Coef) (s : Span)
+    → known_below index p c ≡ Some (Some s)
     → (t : Span) × (p ≡ Some (Some t)) × IsInside s t
 parent-seen join proper index None c s is = absurd (not-some is)
 parent-seen join proper index (Some None) c s is = absurd (none-apart is)

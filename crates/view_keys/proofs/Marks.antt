@@ -1,5 +1,6 @@
 -- How many keys hold a mark of a view: on each level one for each border between columns, and two for each column.
-use Rattle.std.proofs.Common.{ℕ, ℤ, suc, ◌≡◌, ◌+◌, ◌-◌, ◌*◌, ◌/◌, ◌^◌, ◌<◌, ◌≤◌, ◌≤ℤ◌, ◌<ℤ◌, ◌↔◌, ◌⊎◌, inl, inr, List, [], ◌∷◌, length, Bool, true, false, refl, sym, ap, ◌∙◌, subst, arith}
+use Rattle.std.proofs.Common.{ℕ, ℤ, suc, ◌≡◌, ◌+◌, ◌-◌, ◌*◌, ◌/◌, ◌^◌, ◌<◌, ◌≤◌, ◌≤ℤ◌, ◌<ℤ◌, ◌↔◌, ◌⊎◌, inl, inr, List, [], ◌∷◌, length}
+use Rattle.std.proofs.Common.{Bool, true, false, refl, sym, ap, ◌∙◌, subst, arith}
 use Rattle.std.specs.Prelude.{All, ◌||◌}
 use Rattle.std.specs.List.{list_any, IsDistinct, AllByRecursion}
 use Rattle.std.proofs.Math.Dec.{eqb}
@@ -91,16 +92,19 @@ same-slot p q a b = elim (cases_lt p q) [
 first-past-one : (axis : Axis) (grid : Grid) (c p q : ℕ) → IsFirstPast axis grid c p → IsFirstPast axis grid c q → p ≡ q
 first-past-one axis grid c p q a b = same-slot p q (λ low. b.1 p low a.0) (λ low. a.1 q low b.0)
 
-first-one : (Kind : ℕ → Type 0) (axis : Axis) (grid : Grid) (c p q : ℕ) → IsFirstKind Kind axis grid c p → IsFirstKind Kind axis grid c q → p ≡ q
+first-one : (Kind : ℕ → Type 0) (axis : Axis) (grid : Grid) (c p q : ℕ) → IsFirstKind Kind axis grid c p → IsFirstKind Kind axis grid c q
+    → p ≡ q
 first-one Kind axis grid c p q a b =
     same-slot p q (λ low. b.none_before p low a.in_column a.kind) (λ low. a.none_before q low b.in_column b.kind)
 
-last-one : (Kind : ℕ → Type 0) (axis : Axis) (grid : Grid) (c p q : ℕ) → IsLastKind Kind axis grid c p → IsLastKind Kind axis grid c q → p ≡ q
+last-one : (Kind : ℕ → Type 0) (axis : Axis) (grid : Grid) (c p q : ℕ) → IsLastKind Kind axis grid c p → IsLastKind Kind axis grid c q
+    → p ≡ q
 last-one Kind axis grid c p q a b =
     same-slot p q (λ low. a.none_behind q low b.in_column b.kind) (λ low. b.none_behind p low a.in_column a.kind)
 
 -- a mark is one slot
-mark-one : (Kind : ℕ → Type 0) (axis : Axis) (grid : Grid) (c d tag p q : ℕ) → IsMark Kind axis grid c tag p → IsMark Kind axis grid d tag q → p ≡ q
+mark-one : (Kind : ℕ → Type 0) (axis : Axis) (grid : Grid) (c d tag p q : ℕ) → IsMark Kind axis grid c tag p → IsMark Kind axis grid d tag q
+    → p ≡ q
 mark-one Kind axis grid c d tag p q (inl a) (inl b) =
     let e : d ≡ c = omega (arith, a.0, b.0) in
     first-past-one axis grid c p q a.2 (subst (λ (n : ℕ). IsFirstPast axis grid n q) e b.2)
@@ -152,7 +156,8 @@ cut-marked borders Kind axis grid c k shown cut =
     let here = cut.in_column in
     let times = (borders.between grid c (slot_time axis cut.slot) here.shown).0 here.place in
     elim (past-cases axis grid c cut.other) [
-      | inr before ↦ across Kind axis grid c k cut.other cut.slot (omega (arith, shown)) cut.other_in_range cut.in_range before (inr times.0)
+      | inr before ↦ across Kind axis grid c k cut.other cut.slot (omega (arith, shown)) cut.other_in_range cut.in_range before
+          (inr times.0)
       | inl from ↦ elim (past-cases axis grid (c + 1) cut.other) [
         | inl behind ↦ across Kind axis grid (c + 1) k cut.slot cut.other (omega (arith, shown)) cut.in_range cut.other_in_range
             (λ (p : IsPast axis grid (c + 1) cut.slot). elim p [
@@ -163,7 +168,8 @@ cut-marked borders Kind axis grid c k shown cut =
       ]
     ]
   where
-    inside : Borders → (axis : Axis) (grid : Grid) (c i : ℕ) → c < grid.w → IsPast axis grid c i → (IsPast axis grid (c + 1) i → ⊥) → IsInColumn axis grid c i
+    inside : Borders → (axis : Axis) (grid : Grid) (c i : ℕ) → c < grid.w → IsPast axis grid c i → (IsPast axis grid (c + 1) i → ⊥)
+        → IsInColumn axis grid c i
     inside borders axis grid c i shown (inl end) to = absurd (to (inl end))
     inside borders axis grid c i shown (inr late) to =
         elim (cases_lt i axis.slots) [
@@ -204,7 +210,8 @@ index-same a b p q level slot in_a in_b =
     sym (in_range-index a p in_a) ∙ ap (λ n. n / 2 ^ a.level) slot ∙ ap (λ l. q / 2 ^ l) level ∙ in_range-index b q in_b
 
 -- keys of one number are one
-number-one : (Kind : ℕ → Type 0) (axis : Axis) (grid : Grid) (top : ℕ) (a b : Key) (n : ℕ) → IsNumber Kind axis grid top a n → IsNumber Kind axis grid top b n → a ≡ b
+number-one : (Kind : ℕ → Type 0) (axis : Axis) (grid : Grid) (top : ℕ) (a b : Key) (n : ℕ) → IsNumber Kind axis grid top a n
+    → IsNumber Kind axis grid top b n → a ≡ b
 number-one Kind axis grid top a b n x y =
     let m = 3 * grid.w + 1 in
     let small = mark-small Kind axis grid x.marked.place x.tag x.marked.slot x.marked.mark in
@@ -224,7 +231,8 @@ below-all l t m h small low high =
     let steps : (l - 1 + 1) * m ≤ h * m = mul-le-mul_right m part in
     omega (arith, small, steps)
 
-number-small : (Kind : ℕ → Type 0) (axis : Axis) (grid : Grid) (top : ℕ) (k : Key) (n : ℕ) → IsNumber Kind axis grid top k n → n < (3 * grid.w + 1) * top
+number-small : (Kind : ℕ → Type 0) (axis : Axis) (grid : Grid) (top : ℕ) (k : Key) (n : ℕ) → IsNumber Kind axis grid top k n
+    → n < (3 * grid.w + 1) * top
 number-small Kind axis grid top k n x =
     subst (λ (i : ℕ). i < (3 * grid.w + 1) * top) (sym x.is)
     (below-all k.level x.tag (3 * grid.w + 1) (top)
@@ -240,7 +248,8 @@ record Numbers (Kind : ℕ → Type 0) (axis : Axis) (grid : Grid) (top : ℕ) (
   many : length numbers ≡ length es
   distinct : IsDistinct eqb numbers
   small : (q : ℕ) → list_any (eqb q) numbers ≡ true → q < (3 * grid.w + 1) * top
-  apart : (q : ℕ) (k : Key) → IsNumber Kind axis grid top k q → All (λ later. ComesBefore k later.0) es → AllByRecursion (λ y. eqb q y ≡ false) numbers
+  apart : (q : ℕ) (k : Key) → IsNumber Kind axis grid top k q → All (λ later. ComesBefore k later.0) es
+      → AllByRecursion (λ y. eqb q y ≡ false) numbers
 
 no-number : (q bound : ℕ) → list_any (eqb q) [] ≡ true → q < bound
 no-number q bound h = absurd (cc)
@@ -271,7 +280,8 @@ numbers-of Kind axis grid top (e ∷ es) (first, rest) needed =
       numbers = n ∷ more.numbers;
       many = ap suc more.many;
       distinct = IsDistinct-cons eqb n more.numbers (more.apart n e.0 number first) more.distinct;
-      small = λ q h. one-more q n more.numbers ((3 * grid.w + 1) * top) (number-small Kind axis grid top e.0 n number) (more.small q) (eqb q n) refl h;
+      small = λ q h. one-more q n more.numbers ((3 * grid.w + 1) * top) (number-small Kind axis grid top e.0 n number) (more.small q)
+          (eqb q n) refl h;
       apart = λ q k x before. (
         ne_eqb q n (λ same. other_key k e.0 (All-head (λ later. ComesBefore k later.0) e es before)
             (number-one Kind axis grid top k e.0 n (subst (λ (i : ℕ). IsNumber Kind axis grid top k i) same x) number)),

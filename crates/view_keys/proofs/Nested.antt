@@ -13,7 +13,8 @@ use Rattle.view_keys.proofs.Ranging.{above-in_range, shared-above, key-same, par
 use Rattle.view_keys.proofs.Flatness.{HeightsRise, PartsJoin, PartsProper, inside-flat, parent-seen, squeeze}
 
 -- each value of a flat span has one height
-pub flat-value : HeightsRise → (lo hi v : ℤ) (h : ℕ) (s : Span) → IsFlat lo hi h s → s.min ≤ℤ v → v ≤ℤ s.max → height v lo hi h ≡ height s.min lo hi h
+pub flat-value : HeightsRise → (lo hi v : ℤ) (h : ℕ) (s : Span) → IsFlat lo hi h s → s.min ≤ℤ v → v ≤ℤ s.max
+    → height v lo hi h ≡ height s.min lo hi h
 flat-value rise lo hi v h s flat low high =
     sym (squeeze (height s.min lo hi h) (height s.min lo hi h) (height v lo hi h) (height s.max lo hi h)
     (rise s.min s.min lo hi h (omega (arith, ints))) (rise s.min v lo hi h low) (rise v s.max lo hi h high) flat)
@@ -41,7 +42,8 @@ flat-same root told top w k lo hi h s t same w_is k_is flat =
     subst (λ (o : Span). IsFlat lo hi h o) (one-span (sym k_is ∙ ap (λ (b : Key). known root told top b) same ∙ w_is)) flat
 
 flat-down : Splits → (root : Option Span) (told : Key → Option Coef) (top : ℕ) (w : Key) (lo hi : ℤ) (h : ℕ) (t : Span) → w.level ≤ top
-    → known root told top w ≡ Some (Some t) → IsFlat lo hi h t → (fuel : ℕ) (k : Key) (s : Span) → w.level ≤ k.level + fuel → IsAtOrAbove w k
+    → known root told top w ≡ Some (Some t) → IsFlat lo hi h t → (fuel : ℕ) (k : Key) (s : Span) → w.level ≤ k.level + fuel
+    → IsAtOrAbove w k
     → known root told top k ≡ Some (Some s) → IsFlat lo hi h s
 flat-down by root told top w lo hi h t high w_is flat zero k s few above k_is =
     flat-same root told top w k lo hi h s t (level-same w k above (omega (arith, few))) w_is k_is flat
@@ -52,12 +54,14 @@ flat-down by root told top w lo hi h t high w_is flat (suc fuel) k s few above k
           (let p = parent-seen by.join by.proper k.index (known root told top (parent_of k)) (told (parent_of k)) s
           (sym (by.below root told top k (omega (arith, low, high))) ∙ k_is) in
           let p_above : IsAtOrAbove w (parent_of k) = shared-above w (parent_of k) (first_slot k) (omega (arith, low))
-          (above-in_range w k (first_slot k) above (first-in_range k)) (above-in_range (parent_of k) k (first_slot k) (parent-above k) (first-in_range k)) in
+          (above-in_range w k (first_slot k) above (first-in_range k))
+          (above-in_range (parent_of k) k (first_slot k) (parent-above k) (first-in_range k)) in
           inside-flat by.heights lo hi h s p.0 p.2
           (flat-down by root told top w lo hi h t high w_is flat fuel (parent_of k) p.0 (omega (arith, few)) p_above p.1))
     ]
 
-pub flat-below : Splits → (root : Option Span) (told : Key → Option Coef) (top : ℕ) (w k : Key) (lo hi : ℤ) (h : ℕ) (s t : Span) → w.level ≤ top
+pub flat-below : Splits → (root : Option Span) (told : Key → Option Coef) (top : ℕ) (w k : Key) (lo hi : ℤ) (h : ℕ) (s t : Span)
+    → w.level ≤ top
     → IsAtOrAbove w k → known root told top w ≡ Some (Some t) → known root told top k ≡ Some (Some s) → IsFlat lo hi h t → IsFlat lo hi h s
 flat-below by root told top w k lo hi h s t high above w_is k_is flat =
     flat-down by root told top w lo hi h t high w_is flat w.level k s (omega arith) above k_is

@@ -112,7 +112,8 @@ told_among f [] k P told all among = absurd (omega (arith, among.1))
 told_among f (e ∷ es) k P told all among =
     elim (head_or_tail e.0 k (keys_of es) among) [
       | inl is ↦ subst (λ (j : Key). P j (f j)) is
-          (subst (λ (o : Option Coef). P e.0 o) (sym (All-head (λ e. f e.0 ≡ Some e.1) e es told)) (All-head (λ e. P e.0 (Some e.1)) e es all))
+          (subst (λ (o : Option Coef). P e.0 o) (sym (All-head (λ e. f e.0 ≡ Some e.1) e es told))
+          (All-head (λ e. P e.0 (Some e.1)) e es all))
       | inr later ↦ told_among f es k P (All-tail (λ e. f e.0 ≡ Some e.1) e es told) (All-tail (λ e. P e.0 (Some e.1)) e es all) later
     ]
 

@@ -43,7 +43,8 @@ powers-divide i a b low =
 -- a key above another one has its slots
 pub above-in_range : (w k : Key) (i : ℕ) → IsAtOrAbove w k → IsInRange k i → IsInRange w i
 above-in_range w k i above r =
-    index-in_range w i (sym (powers-divide i k.level w.level above.higher) ∙ ap (λ q. q / 2 ^ (w.level - k.level)) (in_range-index k i r) ∙ above.holds)
+    index-in_range w i (sym (powers-divide i k.level w.level above.higher) ∙ ap (λ q. q / 2 ^ (w.level - k.level)) (in_range-index k i r)
+    ∙ above.holds)
 
 -- of two keys that share a slot the one of the higher level lies above
 pub shared-above : (w k : Key) (i : ℕ) → k.level ≤ w.level → IsInRange w i → IsInRange k i → IsAtOrAbove w k

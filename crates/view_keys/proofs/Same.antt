@@ -1,5 +1,6 @@
 -- The wanted keys are the needed ones.
-use Rattle.std.proofs.Common.{ℕ, ℤ, zero, suc, ◌≡◌, ◌+◌, ◌-◌, ◌*◌, ◌/◌, ◌^◌, ◌<◌, ◌≤◌, ◌⊎◌, inl, inr, List, length, Option, None, Some, IsSome, refl, sym, ap, ◌∙◌, subst, arith}
+use Rattle.std.proofs.Common.{ℕ, ℤ, zero, suc, ◌≡◌, ◌+◌, ◌-◌, ◌*◌, ◌/◌, ◌^◌, ◌<◌, ◌≤◌, ◌⊎◌, inl, inr, List, length, Option, None, Some}
+use Rattle.std.proofs.Common.{IsSome, refl, sym, ap, ◌∙◌, subst, arith}
 use Rattle.std.specs.Option.{is_some}
 use Rattle.std.proofs.lemmas.Bool.{cases_lt}
 use Rattle.std.proofs.lemmas.Nat.{pow-add}
@@ -17,16 +18,19 @@ use Rattle.view_keys.specs.Ranges.{IsInRange, IsWithin, IsCut}
 use Rattle.view_keys.specs.Flat.{IsFlat}
 use Rattle.view_keys.specs.Needed.{IsFirstStored, IsLastStored, HoldsEnd, IsUneven, IsNeeded}
 use Rattle.view_keys.specs.Wanted.{Seen, IsClearBefore, IsClearBehind, IsWanted}
-use Rattle.view_keys.proofs.Ranging.{power-some, in_range-index, above-in_range, shared-above, key_at, key_at-in_range, slot_key, slot_key-in_range, slot_key-is, make_key, key-same, parent-above, first-in_range, last-in_range}
+use Rattle.view_keys.proofs.Ranging.{power-some, in_range-index, above-in_range, shared-above, key_at, key_at-in_range, slot_key}
+use Rattle.view_keys.proofs.Ranging.{slot_key-in_range, slot_key-is, make_key, key-same, parent-above, first-in_range, last-in_range}
 use Rattle.view_keys.proofs.Columns.{Rise, in_column-cases, within-or-cut}
-use Rattle.view_keys.proofs.Flatness.{HeightsRise, PartsJoin, PartsProper, IsInside, inside-flat, uneven-above, parent-seen, IsFlatKey, flat-cases}
+use Rattle.view_keys.proofs.Flatness.{HeightsRise, PartsJoin, PartsProper, IsInside, inside-flat, uneven-above, parent-seen, IsFlatKey}
+use Rattle.view_keys.proofs.Flatness.{flat-cases}
 use Rattle.view_keys.proofs.Clearing.{slots-clear}
 use Rattle.view_keys.proofs.Ends.{IsStoredAt, stored-cases, Extremes, stored-some, some-stored, least, greatest, stored-within}
 
 -- the stored nodes above a key are told with the list's coefficients
 abbrev pub AreRightAbove : List (Option ℤ) → Seen → Key → Type 0
 AreRightAbove list seen k =
-    (w : Key) → IsNode (height (length list)) w → k.level < w.level → IsAtOrAbove w k → IsSome (span list w) → seen.told w ≡ Some (coef list w)
+    (w : Key) → IsNode (height (length list)) w → k.level < w.level → IsAtOrAbove w k → IsSome (span list w)
+    → seen.told w ≡ Some (coef list w)
 
 -- what the law rests on
 pub record Ground (list : List (Option ℤ)) (axis : Axis) (grid : Grid) (lo hi : ℤ) (seen : Seen) : Type 0 where
@@ -45,7 +49,8 @@ pub record Ground (list : List (Option ℤ)) (axis : Axis) (grid : Grid) (lo hi 
   pub right : (k : Key) → IsNeeded list axis grid lo hi k → IsWanted seen axis grid lo hi k → seen.told k ≡ Some (coef list k)
 
 -- the height of the axis is that of the list
-axis-height : {list : List (Option ℤ)} {axis : Axis} {grid : Grid} {seen : Seen} {lo hi : ℤ} → Ground list axis grid lo hi seen → height axis.slots ≡ height (length list)
+axis-height : {list : List (Option ℤ)} {axis : Axis} {grid : Grid} {seen : Seen} {lo hi : ℤ} → Ground list axis grid lo hi seen
+    → height axis.slots ≡ height (length list)
 axis-height g = ap height g.slots
 
 as_key : {top : ℕ} {k : Key} → IsNode top k → IsKey top k
@@ -56,10 +61,12 @@ some-is (Some x) some = (x, refl)
 some-is None some = absurd (grind (arith, some))
 
 -- a wanted key, where its span is known to be the list's
-make-wanted : {list : List (Option ℤ)} {axis : Axis} {grid : Grid} {seen : Seen} {lo hi : ℤ} → Ground list axis grid lo hi seen → (c : ℕ) (k : Key)
+make-wanted : {list : List (Option ℤ)} {axis : Axis} {grid : Grid} {seen : Seen} {lo hi : ℤ} → Ground list axis grid lo hi seen
+    → (c : ℕ) (k : Key)
     → IsNode (height (length list)) k → IsSome (span list k)
     → known seen.root seen.told (height (length list)) k ≡ Some (span list k) → c < grid.w
-    → IsCut axis grid c k ⊎ (IsWithin axis grid c k × IsUneven list lo hi grid.h k × (IsClearBefore seen axis grid c k ⊎ IsClearBehind seen axis grid c k))
+    → IsCut axis grid c k ⊎ (IsWithin axis grid c k × IsUneven list lo hi grid.h k
+    × (IsClearBefore seen axis grid c k ⊎ IsClearBehind seen axis grid c k))
     → IsWanted seen axis grid lo hi k
 make-wanted {list} {axis} {grid} {seen} g c k node some is shown reason =
     let s = some-is (span list k) some in record {
@@ -86,7 +93,8 @@ cut-above c w k above cut = record {
 }
 
 -- a stored key that is cut is wanted
-cut-wanted : {list : List (Option ℤ)} {axis : Axis} {grid : Grid} {seen : Seen} {lo hi : ℤ} → Ground list axis grid lo hi seen → (c : ℕ) → c < grid.w
+cut-wanted : {list : List (Option ℤ)} {axis : Axis} {grid : Grid} {seen : Seen} {lo hi : ℤ} → Ground list axis grid lo hi seen → (c : ℕ)
+    → c < grid.w
     → (fuel : ℕ) (k : Key) → height (length list) ≤ k.level + fuel → IsNode (height (length list)) k → IsSome (span list k)
     → IsCut axis grid c k → IsWanted seen axis grid lo hi k
 cut-wanted {list} g c shown zero k deep node some cut =
@@ -101,7 +109,8 @@ cut-wanted {list} g c shown (suc fuel) k deep node some cut =
     (cut-wanted g c shown fuel w (omega (arith, deep, lower)) is full (cut-above c w k above cut))))
     shown (inl cut)
 
-cut-right : {list : List (Option ℤ)} {axis : Axis} {grid : Grid} {seen : Seen} {lo hi : ℤ} → Ground list axis grid lo hi seen → (c : ℕ) → c < grid.w
+cut-right : {list : List (Option ℤ)} {axis : Axis} {grid : Grid} {seen : Seen} {lo hi : ℤ} → Ground list axis grid lo hi seen → (c : ℕ)
+    → c < grid.w
     → (w : Key) → IsNode (height (length list)) w → IsSome (span list w) → IsCut axis grid c w → seen.told w ≡ Some (coef list w)
 cut-right {list} g c shown w node some cut =
     g.right w
@@ -121,7 +130,8 @@ end-stored c i (inl e) = (e.value, e.stored)
 end-stored c i (inr e) = (e.value, e.stored)
 
 -- a slot that holds nothing has no span
-clear-span-by : (list : List (Option ℤ)) (j : ℕ) → Extremes list → (IsStoredAt list j → ⊥) → (o : Option Span) → span list (slot_key j) ≡ o → o ≡ None
+clear-span-by : (list : List (Option ℤ)) (j : ℕ) → Extremes list → (IsStoredAt list j → ⊥) → (o : Option Span) → span list (slot_key j) ≡ o
+    → o ≡ None
 clear-span-by list j extremes empty None is = refl
 clear-span-by list j extremes empty (Some s) is =
     let found = some-stored list (slot_key j) extremes (ap is_some is) in
@@ -151,10 +161,13 @@ in-between w i j t a b (inr h) = record { from = omega (arith, b.from, h.0); to 
 -- keys above that hold an end of the column are wanted
 abbrev WantsAbove : List (Option ℤ) → Axis → Grid → ℤ → ℤ → Seen → ℕ → ℕ → ℕ → Type 0
 WantsAbove list axis grid lo hi seen c i level =
-    (w : Key) → IsNode (height (length list)) w → level < w.level → IsWithin axis grid c w → IsInRange w i → IsUneven list lo hi grid.h w → IsWanted seen axis grid lo hi w
+    (w : Key) → IsNode (height (length list)) w → level < w.level → IsWithin axis grid c w → IsInRange w i → IsUneven list lo hi grid.h w
+    → IsWanted seen axis grid lo hi w
 
-needs-end : {list : List (Option ℤ)} {axis : Axis} {grid : Grid} {seen : Seen} {lo hi : ℤ} → Ground list axis grid lo hi seen → (c i : ℕ) → c < grid.w
-    → IsEnd list axis grid c i → (w : Key) → IsNode (height (length list)) w → IsWithin axis grid c w → IsInRange w i → IsUneven list lo hi grid.h w → IsNeeded list axis grid lo hi w
+needs-end : {list : List (Option ℤ)} {axis : Axis} {grid : Grid} {seen : Seen} {lo hi : ℤ} → Ground list axis grid lo hi seen → (c i : ℕ)
+    → c < grid.w
+    → IsEnd list axis grid c i → (w : Key) → IsNode (height (length list)) w → IsWithin axis grid c w → IsInRange w i
+    → IsUneven list lo hi grid.h w → IsNeeded list axis grid lo hi w
 needs-end {list} g c i shown end w node within r uneven = record {
   node = node;
   stored = stored-some list w i g.extremes r (end-stored c i end);
@@ -170,9 +183,11 @@ end-uneven {list} {axis} {grid} {seen} {lo} {hi} g c i end w k above r uneven =
     uneven-above list lo hi grid.h w k g.heights g.extremes above (stored-some list k i g.extremes r (end-stored c i end)) uneven
 
 -- the keys above an end are right where those within the column are wanted
-end-right : {list : List (Option ℤ)} {axis : Axis} {grid : Grid} {seen : Seen} {lo hi : ℤ} → Ground list axis grid lo hi seen → (c i : ℕ) → c < grid.w
+end-right : {list : List (Option ℤ)} {axis : Axis} {grid : Grid} {seen : Seen} {lo hi : ℤ} → Ground list axis grid lo hi seen → (c i : ℕ)
+    → c < grid.w
     → IsEnd list axis grid c i → (level : ℕ) → WantsAbove list axis grid lo hi seen c i level
-    → (w : Key) → IsNode (height (length list)) w → level < w.level → IsInRange w i → IsSome (span list w) → IsUneven list lo hi grid.h w → seen.told w ≡ Some (coef list w)
+    → (w : Key) → IsNode (height (length list)) w → level < w.level → IsInRange w i → IsSome (span list w) → IsUneven list lo hi grid.h w
+    → seen.told w ≡ Some (coef list w)
 end-right {axis = axis} {grid = grid} g c i shown end level up w node lower r full uneven =
     elim (within-or-cut g.rise axis grid c w i r (end-column c i end)) [
       | inr cut ↦ cut-right g c shown w node full cut
@@ -180,7 +195,8 @@ end-right {axis = axis} {grid = grid} g c i shown end level up w node lower r fu
     ]
 
 -- so are those above a slot that lies beyond the end and outside a key within the column that holds it
-beyond-right : {list : List (Option ℤ)} {axis : Axis} {grid : Grid} {seen : Seen} {lo hi : ℤ} → Ground list axis grid lo hi seen → (c i : ℕ) → c < grid.w
+beyond-right : {list : List (Option ℤ)} {axis : Axis} {grid : Grid} {seen : Seen} {lo hi : ℤ} → Ground list axis grid lo hi seen → (c i : ℕ)
+    → c < grid.w
     → IsEnd list axis grid c i → (k : Key) → WantsAbove list axis grid lo hi seen c i k.level → IsInRange k i → IsUneven list lo hi grid.h k
     → (j : ℕ) → IsInColumn axis grid c j → (IsInRange k j → ⊥) → LiesBetween list axis grid c i j
     → AreRightAbove list seen (slot_key j)
@@ -200,7 +216,8 @@ beyond-right {list} {axis} {grid} {seen} {lo} {hi} g c i shown end k up in_k une
     ]
 
 -- a slot that lies beyond the end is known to hold nothing
-beyond-clear : {list : List (Option ℤ)} {axis : Axis} {grid : Grid} {seen : Seen} {lo hi : ℤ} → Ground list axis grid lo hi seen → (c i : ℕ) → c < grid.w
+beyond-clear : {list : List (Option ℤ)} {axis : Axis} {grid : Grid} {seen : Seen} {lo hi : ℤ} → Ground list axis grid lo hi seen → (c i : ℕ)
+    → c < grid.w
     → IsEnd list axis grid c i → (k : Key) → WantsAbove list axis grid lo hi seen c i k.level → IsInRange k i → IsUneven list lo hi grid.h k
     → (j : ℕ) → IsInColumn axis grid c j → (IsInRange k j → ⊥) → LiesBetween list axis grid c i j → (IsStoredAt list j → ⊥)
     → IsKnownClear seen.root seen.told (height axis.slots) j
@@ -224,7 +241,8 @@ not-behind list axis grid c i t e inside full = elim (cases_lt i t) [
 ]
 
 -- all slots of the column beyond the end are
-end-clear : {list : List (Option ℤ)} {axis : Axis} {grid : Grid} {seen : Seen} {lo hi : ℤ} → Ground list axis grid lo hi seen → (c i : ℕ) → c < grid.w
+end-clear : {list : List (Option ℤ)} {axis : Axis} {grid : Grid} {seen : Seen} {lo hi : ℤ} → Ground list axis grid lo hi seen → (c i : ℕ)
+    → c < grid.w
     → (k : Key) → WantsAbove list axis grid lo hi seen c i k.level → IsInRange k i → IsUneven list lo hi grid.h k → IsEnd list axis grid c i
     → IsClearBefore seen axis grid c k ⊎ IsClearBehind seen axis grid c k
 end-clear {list} {axis} {grid} g c i shown k up in_k uneven (inl e) =
@@ -238,7 +256,8 @@ end-clear {list} {axis} {grid} g c i shown k up in_k uneven (inr e) =
     (λ t inside full. inr (not-behind list axis grid c i t e inside full, omega (arith, high, in_k.to)))
     (λ full. e.none_behind j full.0 (omega (arith, high, in_k.to)) here full.1))
 
-within-by : {list : List (Option ℤ)} {axis : Axis} {grid : Grid} {seen : Seen} {lo hi : ℤ} → Ground list axis grid lo hi seen → (c i : ℕ) → c < grid.w
+within-by : {list : List (Option ℤ)} {axis : Axis} {grid : Grid} {seen : Seen} {lo hi : ℤ} → Ground list axis grid lo hi seen → (c i : ℕ)
+    → c < grid.w
     → IsEnd list axis grid c i → (k : Key) → WantsAbove list axis grid lo hi seen c i k.level → IsNode (height (length list)) k
     → IsWithin axis grid c k → IsInRange k i → IsUneven list lo hi grid.h k → IsWanted seen axis grid lo hi k
 within-by {list} g c i shown end k up node within r uneven =
@@ -248,24 +267,29 @@ within-by {list} g c i shown end k up node within r uneven =
     shown (inr (within, uneven, end-clear g c i shown k up r uneven end))
 
 -- a key within a column that holds one of its ends is wanted
-within-wanted : {list : List (Option ℤ)} {axis : Axis} {grid : Grid} {seen : Seen} {lo hi : ℤ} → Ground list axis grid lo hi seen → (c i : ℕ) → c < grid.w
+within-wanted : {list : List (Option ℤ)} {axis : Axis} {grid : Grid} {seen : Seen} {lo hi : ℤ} → Ground list axis grid lo hi seen
+    → (c i : ℕ) → c < grid.w
     → IsEnd list axis grid c i → (fuel : ℕ) (k : Key) → height (length list) ≤ k.level + fuel → IsNode (height (length list)) k
     → IsWithin axis grid c k → IsInRange k i → IsUneven list lo hi grid.h k → IsWanted seen axis grid lo hi k
 within-wanted {list} g c i shown end zero k deep node within r uneven =
     within-by g c i shown end k (λ w is lower inside holds other. absurd (omega (arith, deep, lower, is.high))) node within r uneven
 within-wanted {list} g c i shown end (suc fuel) k deep node within r uneven =
     within-by g c i shown end k
-    (λ w is lower inside holds other. within-wanted g c i shown end fuel w (omega (arith, deep, lower)) is inside holds other) node within r uneven
+    (λ w is lower inside holds other. within-wanted g c i shown end fuel w (omega (arith, deep, lower)) is inside holds other) node within r
+    uneven
 
 -- a needed key is wanted
-by-reason : {list : List (Option ℤ)} {axis : Axis} {grid : Grid} {seen : Seen} {lo hi : ℤ} → Ground list axis grid lo hi seen → (c : ℕ) → c < grid.w
+by-reason : {list : List (Option ℤ)} {axis : Axis} {grid : Grid} {seen : Seen} {lo hi : ℤ} → Ground list axis grid lo hi seen → (c : ℕ)
+    → c < grid.w
     → (k : Key) → IsNode (height (length list)) k → IsSome (span list k)
-    → IsCut axis grid c k ⊎ (IsWithin axis grid c k × IsUneven list lo hi grid.h k × HoldsEnd list axis grid c k) → IsWanted seen axis grid lo hi k
+    → IsCut axis grid c k ⊎ (IsWithin axis grid c k × IsUneven list lo hi grid.h k × HoldsEnd list axis grid c k)
+    → IsWanted seen axis grid lo hi k
 by-reason {list} g c shown k node some (inl cut) = cut-wanted g c shown (height (length list)) k (omega arith) node some cut
 by-reason {list} g c shown k node some (inr h) =
     within-wanted g c h.2.slot shown h.2.end (height (length list)) k (omega arith) node h.0 h.2.in_range h.1
 
-pub needed-wanted : {list : List (Option ℤ)} {axis : Axis} {grid : Grid} {seen : Seen} {lo hi : ℤ} → Ground list axis grid lo hi seen → (k : Key)
+pub needed-wanted : {list : List (Option ℤ)} {axis : Axis} {grid : Grid} {seen : Seen} {lo hi : ℤ} → Ground list axis grid lo hi seen
+    → (k : Key)
     → IsNeeded list axis grid lo hi k → IsWanted seen axis grid lo hi k
 needed-wanted g k n = by-reason g n.column n.shown k n.node n.stored n.reason
 
@@ -372,7 +396,8 @@ key_at-is : (w : Key) (i : ℕ) → IsInRange w i → key_at w.level i ≡ w
 key_at-is w i r = ap (λ q. make_key w.level q) (in_range-index w i r)
 
 -- the keys above an end are right down to the highest one that is within the column and flat
-chain-right : {list : List (Option ℤ)} {axis : Axis} {grid : Grid} {seen : Seen} {lo hi : ℤ} → Ground list axis grid lo hi seen → (c i : ℕ) → c < grid.w
+chain-right : {list : List (Option ℤ)} {axis : Axis} {grid : Grid} {seen : Seen} {lo hi : ℤ} → Ground list axis grid lo hi seen → (c i : ℕ)
+    → c < grid.w
     → IsEnd list axis grid c i → (level : ℕ)
     → ((l : ℕ) → level < l → l < suc (height (length list)) → IsStop list axis grid lo hi c (key_at l i) → ⊥)
     → AreRightAbove list seen (key_at level i)
@@ -401,10 +426,12 @@ only-slot i j r = omega (arith, r.from, r.to)
 slot-within : {axis : Axis} {grid : Grid} (c i : ℕ) → IsInColumn axis grid c i → IsWithin axis grid c (key_at 0 i)
 slot-within {axis} {grid} c i here j r = subst (λ (n : ℕ). IsInColumn axis grid c n) (sym (only-slot i j r)) here
 
-stop-of : {list : List (Option ℤ)} {axis : Axis} {grid : Grid} {seen : Seen} {lo hi : ℤ} → Ground list axis grid lo hi seen → (c i : ℕ) → c < grid.w
+stop-of : {list : List (Option ℤ)} {axis : Axis} {grid : Grid} {seen : Seen} {lo hi : ℤ} → Ground list axis grid lo hi seen → (c i : ℕ)
+    → c < grid.w
     → IsEnd list axis grid c i → Stop list axis grid lo hi seen c i
 stop-of {list} {axis} {grid} {seen} {lo} {hi} g c i shown end =
-    elim (greatest (λ l. IsStop list axis grid lo hi c (key_at l i)) (stop-cases g.rise list axis grid lo hi c i (end-column c i end)) (suc (height (length list)))) [
+    elim (greatest (λ l. IsStop list axis grid lo hi c (key_at l i)) (stop-cases g.rise list axis grid lo hi c i (end-column c i end))
+    (suc (height (length list)))) [
       | inl found ↦ record {
         level = found.0;
         high = omega (arith, found.1);
@@ -456,17 +483,20 @@ stop-apart : {list : List (Option ℤ)} {axis : Axis} {grid : Grid} {seen : Seen
     → (IsInRange k i → ⊥) → (b : ℕ) → IsInRange k b → IsInRange (key_at s.level i) b → ⊥
 stop-apart {list} {axis} {grid} {seen} {lo} {hi} g c i s k node some uneven out b in_k in_s =
     elim (cases_lt s.level k.level) [
-      | inl low ↦ out (above-in_range k (key_at s.level i) i (shared-above k (key_at s.level i) b (omega (arith, low)) in_k in_s) (key_at-in_range s.level i))
+      | inl low ↦ out (above-in_range k (key_at s.level i) i (shared-above k (key_at s.level i) b (omega (arith, low)) in_k in_s)
+          (key_at-in_range s.level i))
       | inr high ↦ elim s.kind [
         | inl slot ↦ absurd (omega (arith, slot, high, node))
         | inr flat ↦
-            uneven-above list lo hi grid.h (key_at s.level i) k g.heights g.extremes (shared-above (key_at s.level i) k b high in_s in_k) some uneven
+            uneven-above list lo hi grid.h (key_at s.level i) k g.heights g.extremes
+            (shared-above (key_at s.level i) k b high in_s in_k) some uneven
             flat.0 flat.1 flat.2
       ]
     ]
 
 -- a first stored slot before a key that isn't flat leaves a slot before it that isn't known to hold nothing
-not-clear-before : {list : List (Option ℤ)} {axis : Axis} {grid : Grid} {seen : Seen} {lo hi : ℤ} → Ground list axis grid lo hi seen → (c i : ℕ) → c < grid.w
+not-clear-before : {list : List (Option ℤ)} {axis : Axis} {grid : Grid} {seen : Seen} {lo hi : ℤ} → Ground list axis grid lo hi seen
+    → (c i : ℕ) → c < grid.w
     → IsEnd list axis grid c i → (k : Key) → 1 ≤ k.level → IsSome (span list k) → IsUneven list lo hi grid.h k → i < first_slot k
     → IsClearBefore seen axis grid c k → ⊥
 not-clear-before {list} {axis} {grid} {seen} {lo} {hi} g c i shown end k node some uneven low clear =
@@ -477,7 +507,8 @@ not-clear-before {list} {axis} {grid} {seen} {lo} {hi} g c i shown end k node so
     (record { from = omega (arith, at.from, low); to = omega (arith, high, r.to) }))))
 
 -- so does a last one behind it
-not-clear-behind : {list : List (Option ℤ)} {axis : Axis} {grid : Grid} {seen : Seen} {lo hi : ℤ} → Ground list axis grid lo hi seen → (c i : ℕ) → c < grid.w
+not-clear-behind : {list : List (Option ℤ)} {axis : Axis} {grid : Grid} {seen : Seen} {lo hi : ℤ} → Ground list axis grid lo hi seen
+    → (c i : ℕ) → c < grid.w
     → IsEnd list axis grid c i → (k : Key) → 1 ≤ k.level → IsSome (span list k) → IsUneven list lo hi grid.h k → end_slot k ≤ i
     → IsClearBehind seen axis grid c k → ⊥
 not-clear-behind {list} {axis} {grid} {seen} {lo} {hi} g c i shown end k node some uneven high clear =
@@ -489,7 +520,8 @@ not-clear-behind {list} {axis} {grid} {seen} {lo} {hi} g c i shown end k node so
     (record { from = omega (arith, r.from, low); to = omega (arith, at.to, high, last.from) }))))
 
 -- a key that is wanted, whose keys above are needed, is needed
-holds-end : {list : List (Option ℤ)} {axis : Axis} {grid : Grid} {seen : Seen} {lo hi : ℤ} → Ground list axis grid lo hi seen → (c : ℕ) → c < grid.w
+holds-end : {list : List (Option ℤ)} {axis : Axis} {grid : Grid} {seen : Seen} {lo hi : ℤ} → Ground list axis grid lo hi seen → (c : ℕ)
+    → c < grid.w
     → (k : Key) → 1 ≤ k.level → IsSome (span list k) → IsUneven list lo hi grid.h k → IsWithin axis grid c k
     → IsClearBefore seen axis grid c k ⊎ IsClearBehind seen axis grid c k → HoldsEnd list axis grid c k
 holds-end {list} {axis} {grid} g c shown k node some uneven within (inl clear) =
@@ -515,13 +547,16 @@ holds-end {list} {axis} {grid} g c shown k node some uneven within (inr clear) =
       end = inr last.2;
     }
 
-reason-needed : {list : List (Option ℤ)} {axis : Axis} {grid : Grid} {seen : Seen} {lo hi : ℤ} → Ground list axis grid lo hi seen → (c : ℕ) → c < grid.w
+reason-needed : {list : List (Option ℤ)} {axis : Axis} {grid : Grid} {seen : Seen} {lo hi : ℤ} → Ground list axis grid lo hi seen → (c : ℕ)
+    → c < grid.w
     → (k : Key) → 1 ≤ k.level → (s : Span) → span list k ≡ Some s
-    → IsCut axis grid c k ⊎ (IsWithin axis grid c k × (IsFlat lo hi grid.h s → ⊥) × (IsClearBefore seen axis grid c k ⊎ IsClearBehind seen axis grid c k))
+    → IsCut axis grid c k ⊎ (IsWithin axis grid c k × (IsFlat lo hi grid.h s → ⊥)
+    × (IsClearBefore seen axis grid c k ⊎ IsClearBehind seen axis grid c k))
     → IsCut axis grid c k ⊎ (IsWithin axis grid c k × IsUneven list lo hi grid.h k × HoldsEnd list axis grid c k)
 reason-needed g c shown k node s is (inl cut) = inl cut
 reason-needed {list} {axis} {grid} {seen} {lo} {hi} g c shown k node s is (inr h) =
-    let uneven : IsUneven list lo hi grid.h k = λ t t_is flat. h.1 (subst (λ (o : Span). IsFlat lo hi grid.h o) (inner (sym t_is ∙ is)) flat) in
+    let uneven : IsUneven list lo hi grid.h k = λ t t_is flat. h.1
+    (subst (λ (o : Span). IsFlat lo hi grid.h o) (inner (sym t_is ∙ is)) flat) in
     inr (h.0, uneven, holds-end g c shown k node (ap is_some is) uneven h.0 h.2)
 
 needed-by : {list : List (Option ℤ)} {axis : Axis} {grid : Grid} {seen : Seen} {lo hi : ℤ} → Ground list axis grid lo hi seen → (k : Key)
@@ -540,10 +575,13 @@ needed-by {list} {axis} {grid} {seen} g k w up =
     }
 
 -- the key above a wanted one is wanted
-parent-reason : {list : List (Option ℤ)} {axis : Axis} {grid : Grid} {seen : Seen} {lo hi : ℤ} → Ground list axis grid lo hi seen → (c : ℕ) (k p : Key) (s t : Span)
+parent-reason : {list : List (Option ℤ)} {axis : Axis} {grid : Grid} {seen : Seen} {lo hi : ℤ} → Ground list axis grid lo hi seen
+    → (c : ℕ) (k p : Key) (s t : Span)
     → IsAtOrAbove p k → IsInside s t
-    → IsCut axis grid c k ⊎ (IsWithin axis grid c k × (IsFlat lo hi grid.h s → ⊥) × (IsClearBefore seen axis grid c k ⊎ IsClearBehind seen axis grid c k))
-    → IsCut axis grid c p ⊎ (IsWithin axis grid c p × (IsFlat lo hi grid.h t → ⊥) × (IsClearBefore seen axis grid c p ⊎ IsClearBehind seen axis grid c p))
+    → IsCut axis grid c k ⊎ (IsWithin axis grid c k × (IsFlat lo hi grid.h s → ⊥)
+    × (IsClearBefore seen axis grid c k ⊎ IsClearBehind seen axis grid c k))
+    → IsCut axis grid c p ⊎ (IsWithin axis grid c p × (IsFlat lo hi grid.h t → ⊥)
+    × (IsClearBefore seen axis grid c p ⊎ IsClearBehind seen axis grid c p))
 parent-reason g c k p s t above inside (inl cut) = inl (cut-above c p k above cut)
 parent-reason {list} {axis} {grid} {seen} {lo} {hi} g c k p s t above inside (inr h) =
     let first = first-in_range k in
@@ -577,13 +615,15 @@ parent-node top k node low = record {
   within = half-within k.index (top - k.level) (top - suc k.level) (omega (arith, low)) node.within;
 }
 
-parent-wanted : {list : List (Option ℤ)} {axis : Axis} {grid : Grid} {seen : Seen} {lo hi : ℤ} → Ground list axis grid lo hi seen → (k : Key)
+parent-wanted : {list : List (Option ℤ)} {axis : Axis} {grid : Grid} {seen : Seen} {lo hi : ℤ} → Ground list axis grid lo hi seen
+    → (k : Key)
     → IsWanted seen axis grid lo hi k → k.level < height (length list) → IsWanted seen axis grid lo hi (parent_of k)
 parent-wanted {list} {axis} {grid} {seen} g k w low =
     let node : IsNode (height (length list)) k = subst (λ (h : ℕ). IsNode h k) (axis-height g) w.node in
     let k_is : known seen.root seen.told (height (length list)) k ≡ Some (Some w.span) =
     subst (λ (h : ℕ). known seen.root seen.told h k ≡ Some (Some w.span)) (axis-height g) w.known_so in
-    let p = parent-seen g.join g.proper k.index (known seen.root seen.told (height (length list)) (parent_of k)) (seen.told (parent_of k)) w.span
+    let p = parent-seen g.join g.proper k.index (known seen.root seen.told (height (length list)) (parent_of k))
+    (seen.told (parent_of k)) w.span
     (sym (g.below k low) ∙ k_is) in
     record {
       node = subst (λ (h : ℕ). IsNode h (parent_of k)) (sym (axis-height g)) (parent-node (height (length list)) k node low);
@@ -595,7 +635,8 @@ parent-wanted {list} {axis} {grid} {seen} g k w low =
     }
 
 -- the keys above a wanted one are needed
-wanted-above : {list : List (Option ℤ)} {axis : Axis} {grid : Grid} {seen : Seen} {lo hi : ℤ} → Ground list axis grid lo hi seen → (fuel : ℕ) (k : Key)
+wanted-above : {list : List (Option ℤ)} {axis : Axis} {grid : Grid} {seen : Seen} {lo hi : ℤ} → Ground list axis grid lo hi seen
+    → (fuel : ℕ) (k : Key)
     → height (length list) ≤ k.level + fuel → IsWanted seen axis grid lo hi k → NeedsAbove list axis grid lo hi k
 wanted-above {list} g zero k deep want w node lower above = absurd (omega (arith, deep, lower, node.high))
 wanted-above {list} {axis} {grid} {seen} {lo} {hi} g (suc fuel) k deep want w node lower above =
@@ -610,16 +651,19 @@ wanted-above {list} {axis} {grid} {seen} {lo} {hi} g (suc fuel) k deep want w no
           (above-in_range (parent_of k) k (first_slot k) (parent-above k) first))
       | inr same ↦
           (let level : suc k.level ≡ w.level = omega (arith, same, lower) in
-          subst (λ (v : Key). IsNeeded list axis grid lo hi v) (key-same (parent_of k) w level (parent-index k w.level w.index level above.holds))
+          subst (λ (v : Key). IsNeeded list axis grid lo hi v)
+          (key-same (parent_of k) w level (parent-index k w.level w.index level above.holds))
           (needed-by g (parent_of k) p_want p_up))
     ]
 
-pub wanted-needed : {list : List (Option ℤ)} {axis : Axis} {grid : Grid} {seen : Seen} {lo hi : ℤ} → Ground list axis grid lo hi seen → (k : Key)
+pub wanted-needed : {list : List (Option ℤ)} {axis : Axis} {grid : Grid} {seen : Seen} {lo hi : ℤ} → Ground list axis grid lo hi seen
+    → (k : Key)
     → IsWanted seen axis grid lo hi k → IsNeeded list axis grid lo hi k
 wanted-needed {list} g k w = needed-by g k w (wanted-above g (height (length list)) k (omega arith) w)
 
 -- what is seen of a wanted key is the list's span
-pub wanted-shown : {list : List (Option ℤ)} {axis : Axis} {grid : Grid} {seen : Seen} {lo hi : ℤ} → Ground list axis grid lo hi seen → (k : Key)
+pub wanted-shown : {list : List (Option ℤ)} {axis : Axis} {grid : Grid} {seen : Seen} {lo hi : ℤ} → Ground list axis grid lo hi seen
+    → (k : Key)
     → IsWanted seen axis grid lo hi k → known seen.root seen.told (height axis.slots) k ≡ Some (span list k)
 wanted-shown {list} {axis} {grid} {seen} g k w =
     let node : IsNode (height (length list)) k = subst (λ (h : ℕ). IsNode h k) (axis-height g) w.node in

@@ -10,7 +10,8 @@ ghost use Rattle.om3_coeff.specs.Known.{known, IsKnownClear};
 ghost use Rattle.view_keys.specs.Ranges.{IsInRange};
 ghost use Rattle.view_keys.specs.Flat.{IsFlat};
 ghost use Rattle.view_keys.specs.Listed.{AreInOrder};
-ghost use Rattle.view_keys.specs.Laws.{WantedKeysAreNeeded, WantedKeysShowTheirSpans, NeededKeysAreFew, WantedKeysAreFew, FlatKeysHoldFlatKeys};
+ghost use Rattle.view_keys.specs.Laws.{WantedKeysAreNeeded, WantedKeysShowTheirSpans, NeededKeysAreFew, WantedKeysAreFew};
+ghost use Rattle.view_keys.specs.Laws.{FlatKeysHoldFlatKeys};
 
 use chart_grid::laws::{borders_part_columns, columns_rise, heights_rise};
 use om3_coeff::laws::{

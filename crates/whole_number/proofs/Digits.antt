@@ -1,9 +1,11 @@
 -- Digits, their value, and the one spelling of a number.
-use Rattle.std.proofs.Common.{◌≡◌, ℕ, ◌<◌, ◌≤◌, ◌^◌, zero, suc, List, [], ◌∷◌, length, get_or, arith, subst, sym, ap, ◌∙◌, drop, ℤ, pos, negsuc}
+use Rattle.std.proofs.Common.{◌≡◌, ℕ, ◌<◌, ◌≤◌, ◌^◌, zero, suc, List, [], ◌∷◌, length, get_or, arith, subst, sym, ap, ◌∙◌, drop, ℤ, pos}
+use Rattle.std.proofs.Common.{negsuc}
 use Rattle.std.specs.Str.Parse.{AllDigits, digits_value}
 use Rattle.std.specs.Fmt.{decimal}
 use Rattle.std.proofs.lemmas.Str.Parse.{IsNumeralModel, numerals_by_value, tells_digits, digits_value_short}
-use Rattle.std.proofs.lemmas.Fmt.{decimal_is_IsNumeral, length-decimal-le, first_decimal, decimal_digit, decimal-digits_value, decimal_injective}
+use Rattle.std.proofs.lemmas.Fmt.{decimal_is_IsNumeral, length-decimal-le, first_decimal, decimal_digit, decimal-digits_value}
+use Rattle.std.proofs.lemmas.Fmt.{decimal_injective}
 use Rattle.whole_number.specs.Spelling.{SpellsNatural, SpellsInteger}
 
 pub own : IsNumeralModel (AllDigits 10) (digits_value 10)
@@ -40,7 +42,8 @@ spelling_first text (suc n) spells zero_first =
     absurd (omega (arith, first_decimal (suc n) (omega arith) small, ap (λ ds. get_or ds 0 0) spells.0))
 
 -- digits with no leading zero are the spelling of their value
-pub spells_value : (ds : List ℕ) → AllDigits 10 ds → 0 < length ds → length ds ≤ 19 → (get_or ds 0 0 ≡ 48 → length ds ≡ 1) → SpellsNatural ds (digits_value 10 ds)
+pub spells_value : (ds : List ℕ) → AllDigits 10 ds → 0 < length ds → length ds ≤ 19 → (get_or ds 0 0 ≡ 48 → length ds ≡ 1)
+    → SpellsNatural ds (digits_value 10 ds)
 spells_value ds digits some short first =
     let small : digits_value 10 ds < 10 ^ 19 = below 19 ds digits short in
     (sym (decimal-digits_value own ds digits some first (omega (arith, small))), small)

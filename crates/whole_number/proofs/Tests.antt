@@ -1,5 +1,6 @@
 -- The tests of a number's text hold exactly where it spells a number, and its reading gives that one.
-use Rattle.std.proofs.Common.{◌≡◌, ℕ, zero, suc, ℤ, pos, negsuc, ◌+◌, ◌*◌, ◌-◌, ◌-ℤ◌, ◌^◌, ◌<◌, ◌≤◌, true, false, ◌&&◌, ◌==◌, List, [], ◌∷◌, length, take, drop, get_or, inl, inr, refl, sym, subst, ap, ◌∙◌, arith, lit≤}
+use Rattle.std.proofs.Common.{◌≡◌, ℕ, zero, suc, ℤ, pos, negsuc, ◌+◌, ◌*◌, ◌-◌, ◌-ℤ◌, ◌^◌, ◌<◌, ◌≤◌, true, false, ◌&&◌, ◌==◌, List, [], ◌∷◌}
+use Rattle.std.proofs.Common.{length, take, drop, get_or, inl, inr, refl, sym, subst, ap, ◌∙◌, arith, lit≤}
 use Rattle.std.specs.Char.{is_ascii_digit}
 use Rattle.std.specs.List.{list_all}
 use Rattle.std.specs.Str.{all_ascii_digits}
@@ -12,7 +13,8 @@ use Rattle.std.specs.Prelude.{not, nat_le, slice_index}
 use Rattle.std.proofs.lemmas.Fmt.{first_decimal, decimal_digit}
 use Rattle.std.proofs.lemmas.Int.Digits.{digits_value_more}
 use Rattle.std.proofs.lemmas.Str.{digit_value_digit}
-use Rattle.std.proofs.lemmas.Str.Parse.{IsNumeralModel, numerals_by_value, tells_all_ascii_digits, digits_value-take-le, digits_value_short, digit_at}
+use Rattle.std.proofs.lemmas.Str.Parse.{IsNumeralModel, numerals_by_value, tells_all_ascii_digits, digits_value-take-le, digits_value_short}
+use Rattle.std.proofs.lemmas.Str.Parse.{digit_at}
 use Rattle.whole_number.specs.Numbers.{is_natural, natural_value, is_negative, is_integer, integer_value}
 use Rattle.whole_number.specs.Spelling.{SpellsNatural, SpellsInteger}
 use Rattle.whole_number.proofs.Digits.{spelling_digits, spelling_some, spelling_short, spelling_first, spells_value, no_dash, begins_dash}
@@ -28,7 +30,8 @@ all_digits bytes digits =
     (numerals_by_value (λ ds. all_ascii_digits ds ≡ true) tells_all_ascii_digits).to bytes (sym (same_digits bytes) ∙ digits)
 
 -- what a natural number is made of
-pub natural_parts : (text : List ℕ) → is_natural text ≡ true → (list_all is_ascii_digit text ≡ true) × (1 ≤ length text) × (length text ≤ 19)
+pub natural_parts : (text : List ℕ) → is_natural text ≡ true
+    → (list_all is_ascii_digit text ≡ true) × (1 ≤ length text) × (length text ≤ 19)
 unfolding is_natural
 natural_parts text natural = grind (arith, nat_tests)
 
@@ -75,7 +78,8 @@ natural_spelt text natural =
     spells_value text (natural_digits text natural) parts.1 parts.2 (natural_first text natural)
 
 -- the parts of the test make it
-natural_made : (text : List ℕ) → list_all is_ascii_digit text ≡ true → 1 ≤ length text → length text ≤ 19 → (get_or text 0 0 ≡ 48 → length text ≤ 1) → is_natural text ≡ true
+natural_made : (text : List ℕ) → list_all is_ascii_digit text ≡ true → 1 ≤ length text → length text ≤ 19
+    → (get_or text 0 0 ≡ 48 → length text ≤ 1) → is_natural text ≡ true
 unfolding is_natural
 natural_made text digits some short first = grind (arith, nat_tests)
 
@@ -114,7 +118,8 @@ positive_value : (text : List ℕ) → is_negative text ≡ false → integer_va
 unfolding integer_value
 positive_value text sign = rw sign refl
 
-negative : (text : List ℕ) → is_negative text ≡ true → is_integer text ≡ (nat_le 2 (length text) && not (slice_index text 1 == 48) && is_natural (drop 1 text))
+negative : (text : List ℕ) → is_negative text ≡ true
+    → is_integer text ≡ (nat_le 2 (length text) && not (slice_index text 1 == 48) && is_natural (drop 1 text))
 unfolding is_integer
 negative text sign = rw sign refl
 
@@ -145,7 +150,8 @@ parts_of text h =
 from_parts : (text : List ℕ) → AreParts text → (nat_le 2 (length text) && not (slice_index text 1 == 48) && is_natural (drop 1 text)) ≡ true
 from_parts text h =
     and_from (nat_le 2 (length text) && not (slice_index text 1 == 48)) (is_natural (drop 1 text))
-    (and_from (nat_le 2 (length text)) (not (slice_index text 1 == 48)) (grind (arith, nat_tests, h.some)) (grind (arith, nat_tests, h.first)))
+    (and_from (nat_le 2 (length text)) (not (slice_index text 1 == 48)) (grind (arith, nat_tests, h.some))
+    (grind (arith, nat_tests, h.first)))
     h.natural
 
 is_dash : (text : List ℕ) → is_negative text ≡ true → get_or text 0 0 ≡ 45

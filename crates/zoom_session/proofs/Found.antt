@@ -1,5 +1,6 @@
 -- The session of a number, by the place at which it stands.
-use Rattle.std.proofs.Common.{◌≡◌, ℕ, zero, suc, ◌<◌, ◌≤◌, Bool, true, false, ◌==◌, if◌then◌else◌, List, [], ◌∷◌, length, get_or, Option, None, Some, refl, ap, sym, ◌∙◌, inl, inr, arith}
+use Rattle.std.proofs.Common.{◌≡◌, ℕ, zero, suc, ◌<◌, ◌≤◌, Bool, true, false, ◌==◌, if◌then◌else◌, List, [], ◌∷◌, length, get_or, Option}
+use Rattle.std.proofs.Common.{None, Some, refl, ap, sym, ◌∙◌, inl, inr, arith}
 use Rattle.std.specs.Prelude.{position, cond, slice_set, ◌||◌, IfSome, IfNone}
 use Rattle.std.specs.List.{remove, position_or_len}
 use Rattle.std.proofs.lemmas.Bool.{cases_lt, lt-ltb}
@@ -41,19 +42,23 @@ pub session_at : (number : ℕ) (ss : List Session) (i : ℕ) (d : Session) → 
 session_at number [] i d at = let inside = at.inside in absurd (omega arith)
 session_at number (s ∷ ss) zero d at = ap (λ b. if b then Some s else session_of number ss) (at.here d)
 session_at number (s ∷ ss) (suc i) d at =
-    ap (λ b. if b then Some s else session_of number ss) (at.none_before 0 d (omega arith)) ∙ session_at number ss i d (behind number s ss i at)
+    ap (λ b. if b then Some s else session_of number ss) (at.none_before 0 d (omega arith))
+    ∙ session_at number ss i d (behind number s ss i at)
 
 -- without it
 pub without_at : (number : ℕ) (ss : List Session) (i : ℕ) (d : Session) → StandsAt number ss i → without number ss ≡ remove ss i
 without_at number [] i d at = let inside = at.inside in absurd (omega arith)
 without_at number (s ∷ ss) zero d at = ap (λ b. if b then ss else s ∷ without number ss) (at.here d)
 without_at number (s ∷ ss) (suc i) d at =
-    ap (λ b. if b then ss else s ∷ without number ss) (at.none_before 0 d (omega arith)) ∙ ap (λ l. s ∷ l) (without_at number ss i d (behind number s ss i at))
+    ap (λ b. if b then ss else s ∷ without number ss) (at.none_before 0 d (omega arith))
+    ∙ ap (λ l. s ∷ l) (without_at number ss i d (behind number s ss i at))
 
 -- after a view of it
-pub viewed_at : (number : ℕ) (spec : ViewSpec) (needed : Option (List (Key × Coef))) (ss : List Session) (i : ℕ) (d : Session) → StandsAt number ss i → viewed number spec needed ss ≡ slice_set ss i (after_view spec needed (get_or ss i d))
+pub viewed_at : (number : ℕ) (spec : ViewSpec) (needed : Option (List (Key × Coef))) (ss : List Session) (i : ℕ) (d : Session)
+    → StandsAt number ss i → viewed number spec needed ss ≡ slice_set ss i (after_view spec needed (get_or ss i d))
 viewed_at number spec needed [] i d at = let inside = at.inside in absurd (omega arith)
-viewed_at number spec needed (s ∷ ss) zero d at = ap (λ b. if b then after_view spec needed s ∷ ss else s ∷ viewed number spec needed ss) (at.here d)
+viewed_at number spec needed (s ∷ ss) zero d at = ap (λ b. if b then after_view spec needed s ∷ ss
+    else s ∷ viewed number spec needed ss) (at.here d)
 viewed_at number spec needed (s ∷ ss) (suc i) d at =
     ap (λ b. if b then after_view spec needed s ∷ ss else s ∷ viewed number spec needed ss) (at.none_before 0 d (omega arith))
     ∙ ap (λ l. s ∷ l) (viewed_at number spec needed ss i d (behind number s ss i at))
@@ -68,7 +73,8 @@ open_at number (s ∷ ss) (suc i) d at =
 beyond : (p : Session → Bool) (ss : List Session) → position p ss ≡ None → length ss ≤ position_or_len p ss
 beyond p ss none = elim (cases_lt (position_or_len p ss) (length ss)) [
   | inl below ↦
-      let there : position p ss ≡ Some (position_or_len p ss) = ap (λ b. cond b (Some (position_or_len p ss)) None) (lt-ltb (position_or_len p ss) (length ss) below) in
+      let there : position p ss ≡ Some (position_or_len p ss) = ap (λ b. cond b (Some (position_or_len p ss)) None)
+      (lt-ltb (position_or_len p ss) (length ss) below) in
       let clash : Some (position_or_len p ss) ≡ None = sym there ∙ none in
       cc
   | inr past ↦ past
@@ -82,10 +88,11 @@ none_open number ss none =
 
 pub none_of : (number : ℕ) (ss : List Session) → is_open number ss ≡ false → session_of number ss ≡ None
 none_of number [] none = refl
-none_of number (s ∷ ss) none = (elim (is_numbered number s) as (λ b. (b || is_open number ss) ≡ false → (if b then Some s else session_of number ss) ≡ None) [
-  | true ↦ λ h. cc
-  | false ↦ λ h. none_of number ss h
-]) none
+none_of number (s ∷ ss) none = (elim (is_numbered number s) as (λ b. (b || is_open number ss) ≡ false
+    → (if b then Some s else session_of number ss) ≡ None) [
+      | true ↦ λ h. cc
+      | false ↦ λ h. none_of number ss h
+    ]) none
 
 pub place_so : (number : ℕ) (ss : List Session) (o : Option ℕ) → o ≡ position (is_numbered number) ss → IfSome o (IsPlaceOf number ss)
 place_so number ss None same = tt

@@ -24,7 +24,8 @@ order-filter p (e ∷ es) order = elim (p e) as (λ b. AreInOrder (cond b (e ∷
 ]
 
 -- a plan's lists have the entries of the needed keys
-pub entries_so : (session : Session) (series slots : ℕ) (plan : Plan) → AreInOrder plan.needed → All (IsEntry slots) plan.needed → IsPlan session series plan → HasEntries slots plan
+pub entries_so : (session : Session) (series slots : ℕ) (plan : Plan) → AreInOrder plan.needed → All (IsEntry slots) plan.needed
+    → IsPlan session series plan → HasEntries slots plan
 entries_so session series slots plan order entries planned = record {
   order = order;
   needed = entries;
@@ -33,12 +34,15 @@ entries_so session series slots plan order entries planned = record {
 }
 
 -- what is sent is no longer than what is needed
-pub fewer_sent : (pairs : List (SeriesKey × Coef)) (series : ℕ) (needed : List (Key × Coef)) → length (to_send pairs series needed) ≤ length needed
+pub fewer_sent : (pairs : List (SeriesKey × Coef)) (series : ℕ) (needed : List (Key × Coef))
+    → length (to_send pairs series needed) ≤ length needed
 fewer_sent pairs series needed =
     let is_sent : Key × Coef → Bool = λ e. not (holds pairs (series_key series e.0, e.1)) in
     omega (arith, length-filter is_sent needed, count_by-le-length is_sent needed)
 
-pub bounds_so : (pairs : List (SeriesKey × Coef)) (series capacity : ℕ) (needed send : List (Key × Coef)) → AreInOrder needed → send ≡ to_send pairs series needed → length needed ≤ capacity → IsCapacity capacity → IsInBounds (record { needed = needed; send = send })
+pub bounds_so : (pairs : List (SeriesKey × Coef)) (series capacity : ℕ) (needed send : List (Key × Coef)) → AreInOrder needed
+    → send ≡ to_send pairs series needed → length needed ≤ capacity → IsCapacity capacity
+    → IsInBounds (record { needed = needed; send = send })
 bounds_so pairs series capacity needed send order sent room size = record {
   order = order;
   few = omega (arith, room, size.1);

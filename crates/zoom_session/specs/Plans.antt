@@ -70,7 +70,8 @@ RefusesPlan (Some session) old new axis grid lo hi error = StopsPlan session old
 
 -- a view that is too large needs just as many keys as the error says
 abbrev pub CountsNeeded : List (Option ℤ) → Axis → Grid → ℤ → ℤ → PlanError → Type 0
-CountsNeeded list axis grid lo hi (TooLarge needed cache) = (keys : List (Key × Coef)) × AreNeeded list axis grid lo hi keys × (length keys ≡ needed)
+CountsNeeded list axis grid lo hi (TooLarge needed cache) = (keys : List (Key × Coef)) × AreNeeded list axis grid lo hi keys
+    × (length keys ≡ needed)
 CountsNeeded list axis grid lo hi (Node error) = ⊤
 CountsNeeded list axis grid lo hi NoMemory = ⊤
 

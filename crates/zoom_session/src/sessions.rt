@@ -1,11 +1,13 @@
-ghost use Rattle.std.specs.Prelude.{◌≡◌, ◌==◌, ◌≤◌, ◌≤ℤ◌, ◌<◌, ◌+◌, ◌++◌, [], ◌∷◌, ℤ, List, length, Option, None, Some, IsTrue, IfOk, IfErr, IfSome, IfNone, OnOk, OnErr, false, position, ◌≢◌};
+ghost use Rattle.std.specs.Prelude.{◌≡◌, ◌==◌, ◌≤◌, ◌≤ℤ◌, ◌<◌, ◌+◌, ◌++◌, [], ◌∷◌, ℤ, List, length, Option, None, Some, IsTrue, IfOk};
+ghost use Rattle.std.specs.Prelude.{IfErr, IfSome, IfNone, OnOk, OnErr, false, position, ◌≢◌};
 ghost use Rattle.om3_coeff.specs.declared.errors.NodeError.TheVariants.{DiskFault};
 ghost use Rattle.std.specs.Option.{option_copied};
 ghost use Rattle.needed_nodes.specs.Answers.{AgreesForView, most_needed, most_reads};
 ghost use Rattle.zoom_session.specs.Places.{IsPlaceOf, IsClosed};
 ghost use Rattle.zoom_session.specs.Planned.{IsInBounds};
 ghost use Rattle.zoom_session.specs.Plans.{AreNeeded, AreWanted, HasEntries, NeedsAtMost, PlansIn, RefusesPlan, CountsNeeded};
-ghost use Rattle.zoom_session.specs.Sessions.{is_open, session_of, last_of, cache_of, open_refusal, fresh_session, without, needed_in, viewed, AreSessions};
+ghost use Rattle.zoom_session.specs.Sessions.{is_open, session_of, last_of, cache_of, open_refusal, fresh_session, without, needed_in};
+ghost use Rattle.zoom_session.specs.Sessions.{viewed, AreSessions};
 ghost use Rattle.zoom_session.specs.declared.errors.SessionError.TheVariants.{Refused};
 ghost use Rattle.series_book.specs.declared.refusals.Refusal.{Refusal};
 ghost use Rattle.series_book.specs.declared.refusals.Refusal.TheVariants.{UnknownSession};
@@ -156,8 +158,8 @@ impl Sessions {
     }
 
     /// What a view without a filter takes that shows the values from `lo` to `hi`: the keys that it needs,
-    /// and those of them to send. Nothing changes but what asks of the nodes keep. It is `TooLarge` exactly where the view needs more keys than the
-    /// session's client keeps, unless the nodes gave an error first.
+    /// and those of them to send. Nothing changes but what asks of the nodes keep. It is `TooLarge` exactly where the view needs
+    /// more keys than the session's client keeps, unless the nodes gave an error first.
     #[tactic(auto, using(crate::proofs::Planning::plans_in, crate::proofs::Planning::have_entries, crate::proofs::Planning::walk_stops, crate::proofs::Planning::keys_stop, crate::proofs::Planning::counts_needed, crate::proofs::Planning::walk_few, crate::proofs::Planning::keys_few))]
     pub fn plan_view<N: Nodes>(
         &self,
@@ -187,7 +189,8 @@ impl Sessions {
         ensures few { IfOk result (λ plan. length plan.needed ≤ most_needed spec.now.grid.w axis.slots) }
 
         // why there is no plan
-        ensures refused { IfErr result (RefusesPlan (session_of number self.now) (N.view nodes.old) (N.view nodes.new) axis spec.now.grid lo hi) }
+        ensures refused { IfErr result (RefusesPlan (session_of number self.now) (N.view nodes.old)
+            (N.view nodes.new) axis spec.now.grid lo hi) }
         ensures counted { (list : List (Option ℤ)) → AgreesForView (N.view nodes.old) axis spec.now.grid lo hi list →
             IfErr result (CountsNeeded list axis spec.now.grid lo hi) }
         ensures large { IfErr result (NeedsAtMost (most_needed spec.now.grid.w axis.slots)) }

@@ -12,4 +12,5 @@ pub returns-clause-found : goal.returns-clause-found
 returns-clause-found c =
     let P : ℤ → Type 0 = λ z. SpellsInteger c.args.text.now z in
     let fits : SFits w128 c.integer_value.result = search rules in
-    subst P (sym (to_z-of_z w128 c.integer_value.result fits ∙ c.integer_value.ensures.value)) (integer_spelt c.args.text.now (sym c.is_integer.ensures ∙ c.if-not-is_integer.false))
+    subst P (sym (to_z-of_z w128 c.integer_value.result fits ∙ c.integer_value.ensures.value))
+    (integer_spelt c.args.text.now (sym c.is_integer.ensures ∙ c.if-not-is_integer.false))

@@ -7,7 +7,9 @@ use Rattle.block_disk.proofs.tear.tear_all.Goals as goal
 
 pub loop-call-preserved : goal.loop-call-preserved
 loop-call-preserved c = record {
-  torn = tears_step c.args.tear c.args.calls.now c.loop-call.call-index c.call-item.result (blocks_of c.args.old.now) (blocks_of c.args.new.now) (blocks_of c.loop-call.left.items) (blocks_of c.tear_call.new.left.items) c.loop-call-test.true c.call-item.is c.loop-call.invariant.torn c.in_ok-tear_call.ensures.torn;
+  torn = tears_step c.args.tear c.args.calls.now c.loop-call.call-index c.call-item.result (blocks_of c.args.old.now)
+      (blocks_of c.args.new.now) (blocks_of c.loop-call.left.items)
+      (blocks_of c.tear_call.new.left.items) c.loop-call-test.true c.call-item.is c.loop-call.invariant.torn c.in_ok-tear_call.ensures.torn;
   len = c.tear_call.ensures.len ∙ c.loop-call.invariant.len;
 }
 
@@ -25,7 +27,8 @@ loop-call-init c = record {
 
 pub tear_call-requires-clause-fits : goal.tear_call-requires-clause-fits
 tear_call-requires-clause-fits c =
-    all_at (call_fits c.args.blocks) c.args.calls.now c.loop-call.call-index c.call-item.result c.loop-call-test.true c.call-item.is c.requires.fits
+    all_at (call_fits c.args.blocks) c.args.calls.now c.loop-call.call-index c.call-item.result c.loop-call-test.true c.call-item.is
+    c.requires.fits
 
 pub tear_call-requires-clause-within : goal.tear_call-requires-clause-within
 tear_call-requires-clause-within c = omega (arith, c.requires.new_within, c.loop-call.invariant.len)
@@ -44,7 +47,8 @@ returns-in_err-tear_call-clause-len c = IfOk-from_err c.from_residual-in_err-tea
 
 pub returns-clause-torn : goal.returns-clause-torn
 returns-clause-torn c =
-    tears_all c.args.tear c.args.calls.now c.loop-call.call-index (blocks_of c.args.old.now) (blocks_of c.args.new.now) (blocks_of c.loop-call.left.items) c.loop-call-test.false c.loop-call.invariant.torn
+    tears_all c.args.tear c.args.calls.now c.loop-call.call-index (blocks_of c.args.old.now) (blocks_of c.args.new.now)
+    (blocks_of c.loop-call.left.items) c.loop-call-test.false c.loop-call.invariant.torn
 
 pub returns-clause-len : goal.returns-clause-len
 returns-clause-len c = c.loop-call.invariant.len

@@ -8,7 +8,8 @@ use Rattle.catalog_page.proofs.setting.set_numbers.Goals as goal
 pub returns-clause-step : goal.returns-clause-step
 returns-clause-step c =
     number_same 4 36 c.set_short.new.bytes c.set_short-2.new.bytes (λ k from to.
-    c.set_short-2.ensures.rest k (inl (omega (arith, to))) ∙ c.set_long.ensures.rest k (inl (omega (arith, to))) ∙ c.set_value.ensures.rest k (inl (omega (arith, to))))
+    c.set_short-2.ensures.rest k (inl (omega (arith, to))) ∙ c.set_long.ensures.rest k (inl (omega (arith, to)))
+    ∙ c.set_value.ensures.rest k (inl (omega (arith, to))))
     ∙ c.set_short.ensures.set
 
 pub returns-clause-start : goal.returns-clause-start

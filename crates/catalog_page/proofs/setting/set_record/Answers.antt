@@ -33,5 +33,6 @@ returns c =
       kept = λ count fresh within few fits keeps.
           set_keeps number count count fresh part old new is (keeps_rules fresh fits) within few (omega arith) (λ i low other. low) keeps;
       added = λ fresh fits keeps.
-          set_keeps number number (number + 1) fresh part old new is (keeps_rules fresh fits) (omega arith) (omega (arith, c.requires.number)) (omega arith) (λ i low other. below_next i number low other) keeps;
+          set_keeps number number (number + 1) fresh part old new is (keeps_rules fresh fits) (omega arith)
+          (omega (arith, c.requires.number)) (omega arith) (λ i low other. below_next i number low other) keeps;
     }

@@ -14,4 +14,5 @@ returns-clause-draws c = λ grid points of canvas order rows heights.
     let same : HasCanvas grid c.in_ok-bitmap.bitmap.w c.in_ok-bitmap.bitmap.h =
     record { columns = canvas.columns ∙ sym blank.width; rows = canvas.rows ∙ sym blank.height } in
     points_drawn grid c.args.lo c.args.hi points c.in_ok-bitmap.bitmap c.draw_rows.new.bitmap c.args.w c.args.h canvas blank
-    (simp to_z-of_z at c.draw_rows.ensures.raster grid points of same order rows (subst (λ n. HaveSameHeights c.args.lo c.args.hi n c.args.rows.now of) (sym blank.height) heights))
+    (simp to_z-of_z at c.draw_rows.ensures.raster grid points of same order rows
+    (subst (λ n. HaveSameHeights c.args.lo c.args.hi n c.args.rows.now of) (sym blank.height) heights))

@@ -12,7 +12,8 @@ cons_append None xs ys = refl
 cons_append (Some x) xs ys = refl
 
 next : (frames : List Frame) (drawings : List Canvas) (old between new : List Holding) (frame : Frame) (drawing : Option Canvas)
-    → AcceptsAll frames drawings old between → Accepts frame drawing between new → AcceptsAll (frames ++ frame ∷ []) (drawings ++ cons_option drawing []) old new
+    → AcceptsAll frames drawings old between → Accepts frame drawing between new
+    → AcceptsAll (frames ++ frame ∷ []) (drawings ++ cons_option drawing []) old new
 next [] drawings old between new frame drawing all last = (
   drawing,
   new,
@@ -31,4 +32,5 @@ next (f ∷ frames) drawings old between new frame drawing all last = (
 )
 
 pub returns-clause-next : goal.returns-clause-next
-returns-clause-next c = λ frames drawings old between new frame drawing all last. next frames drawings old between new frame drawing all last
+returns-clause-next c = λ frames drawings old between new frame drawing all last.
+    next frames drawings old between new frame drawing all last

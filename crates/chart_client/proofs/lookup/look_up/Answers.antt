@@ -13,7 +13,8 @@ loop-from-preserved-then-comes_before c =
     let list : List (Key × Coef) = c.args.list.now in
     let middle : ℕ = c.loop-from.from + (c.loop-from.to - c.loop-from.from) / 2 in
     let less : middle < c.loop-from.to = omega (arith, c.loop-from-test.true) in
-    narrowed_up list c.args.key c.loop-from.from c.loop-from.to middle (middle + 1) (get_or list middle no_entry) c.requires.order c.loop-from.invariant less refl
+    narrowed_up list c.args.key c.loop-from.from c.loop-from.to middle (middle + 1)
+    (get_or list middle no_entry) c.requires.order c.loop-from.invariant less refl
     (same list middle (omega (arith, less, c.loop-from.invariant.within))) (c.comes_before.ensures.0 c.if-comes_before.true)
 
 pub loop-from-preserved : goal.loop-from-preserved
@@ -21,12 +22,15 @@ loop-from-preserved c =
     let list : List (Key × Coef) = c.args.list.now in
     let middle : ℕ = c.loop-from.from + (c.loop-from.to - c.loop-from.from) / 2 in
     let less : middle < c.loop-from.to = omega (arith, c.loop-from-test.true) in
-    narrowed_down list c.args.key c.loop-from.from c.loop-from.to middle (get_or list middle no_entry) c.requires.order c.loop-from.invariant (omega arith) less
-    (same list middle (omega (arith, less, c.loop-from.invariant.within))) (λ before. not_both c.comes_before.result (c.comes_before.ensures.1 before) c.if-comes_before.false)
+    narrowed_down list c.args.key c.loop-from.from c.loop-from.to middle
+    (get_or list middle no_entry) c.requires.order c.loop-from.invariant (omega arith) less
+    (same list middle (omega (arith, less, c.loop-from.invariant.within)))
+    (λ before. not_both c.comes_before.result (c.comes_before.ensures.1 before) c.if-comes_before.false)
 
 pub returns-then-from-list : goal.returns-then-from-list
 returns-then-from-list c = record {
-  found = λ series. none_left series c.args.list.now c.args.key c.loop-from.from c.loop-from.to c.loop-from.invariant (omega (arith, c.if-from-list.true));
+  found = λ series. none_left series c.args.list.now c.args.key c.loop-from.from c.loop-from.to c.loop-from.invariant
+      (omega (arith, c.if-from-list.true));
 }
 
 pub returns-then-comes_before-2 : goal.returns-then-comes_before-2
@@ -35,7 +39,8 @@ returns-then-comes_before-2 c =
     let from : ℕ = c.loop-from.from in
     let inside : from < length list = omega (arith, c.if-from-list.false, c.loop-from.invariant.order, c.loop-from.invariant.within) in
     record {
-      found = λ series. none_found series list c.args.key from c.loop-from.to (get_or list from no_entry) c.requires.order c.loop-from.invariant inside (same list from inside)
+      found = λ series. none_found series list c.args.key from c.loop-from.to
+          (get_or list from no_entry) c.requires.order c.loop-from.invariant inside (same list from inside)
           (c.comes_before-2.ensures.0 c.if-comes_before-2.true);
     }
 

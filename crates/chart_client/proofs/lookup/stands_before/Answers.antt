@@ -15,12 +15,15 @@ pub returns-clause-before : goal.returns-clause-before
 returns-clause-before c = λ is.
     let list : List (Key × Coef) = c.args.list.now in
     let less : c.args.place < length list = omega (arith, c.requires.within, c.if-place-list.false) in
-    narrowed_up list c.args.key 0 (length list) c.args.place (c.args.place + 1) (get_or list c.args.place no_entry) c.requires.order (narrowed_none list c.args.key) less refl
+    narrowed_up list c.args.key 0 (length list) c.args.place (c.args.place + 1) (get_or list c.args.place no_entry) c.requires.order
+    (narrowed_none list c.args.key) less refl
     (get_or_default list c.args.place no_entry (get_or list c.args.place no_entry) less) (c.comes_before.ensures.0 is)
 
 pub returns-clause-behind : goal.returns-clause-behind
 returns-clause-behind c = λ is.
     let list : List (Key × Coef) = c.args.list.now in
     let less : c.args.place < length list = omega (arith, c.requires.within, c.if-place-list.false) in
-    narrowed_down list c.args.key 0 (length list) c.args.place (get_or list c.args.place no_entry) c.requires.order (narrowed_none list c.args.key) (omega arith) less
-    (get_or_default list c.args.place no_entry (get_or list c.args.place no_entry) less) (λ before. not_both c.comes_before.result (c.comes_before.ensures.1 before) is)
+    narrowed_down list c.args.key 0 (length list) c.args.place (get_or list c.args.place no_entry) c.requires.order
+    (narrowed_none list c.args.key) (omega arith) less
+    (get_or_default list c.args.place no_entry (get_or list c.args.place no_entry) less)
+    (λ before. not_both c.comes_before.result (c.comes_before.ensures.1 before) is)

@@ -14,10 +14,13 @@ returns c =
         omega (arith, c.if-first-scope.false, c.first.ensures),
         omega (arith, c.if-scope-end.false, c.end.ensures),
         subst Q c.h.ensures.value
-            (range_at P (to_z w64 (of_z w64 c.args.scope.range.lo)) (to_z w64 (of_z w64 c.args.scope.range.hi)) c.args.scope.range.lo c.args.scope.range.hi low high (c.is_flat.ensures.0 flat)),
+            (range_at P (to_z w64 (of_z w64 c.args.scope.range.lo))
+            (to_z w64 (of_z w64 c.args.scope.range.hi)) c.args.scope.range.lo c.args.scope.range.hi low high
+            (c.is_flat.ensures.0 flat)),
       ),
       λ settled.
           c.is_flat.ensures.1
-          (range_at P c.args.scope.range.lo c.args.scope.range.hi (to_z w64 (of_z w64 c.args.scope.range.lo)) (to_z w64 (of_z w64 c.args.scope.range.hi)) (sym low) (sym high)
+          (range_at P c.args.scope.range.lo c.args.scope.range.hi (to_z w64 (of_z w64 c.args.scope.range.lo))
+          (to_z w64 (of_z w64 c.args.scope.range.hi)) (sym low) (sym high)
           (subst Q (sym c.h.ensures.value) settled.2)),
     )

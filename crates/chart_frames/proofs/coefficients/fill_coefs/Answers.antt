@@ -9,5 +9,6 @@ pub returns-in-Err-clause-err : goal.returns-in-Err-clause-err
 returns-in-Err-clause-err c = (
   c.loop.rest.now,
   ap (λ (xs : List (Key × Coef)). coefs_before xs c.loop.rest.now) c.in-Err.ensures.unchanged ∙ c.loop.invariant.same,
-  coefs_ended c.in-Err.stop c.args.slots c.loop.coefs.items c.push_coef.new.coefs.items c.args.count c.loop.rest.now (omega arith) c.in-Err.ensures.unchanged c.in-Err.ensures.err,
+  coefs_ended c.in-Err.stop c.args.slots c.loop.coefs.items c.push_coef.new.coefs.items c.args.count c.loop.rest.now
+      (omega arith) c.in-Err.ensures.unchanged c.in-Err.ensures.err,
 )

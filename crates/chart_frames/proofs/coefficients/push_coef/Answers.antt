@@ -28,5 +28,6 @@ returns-in-Ok-push-clause-ok c =
     let old = c.args.coefs.now.items in
     let new : c.push.new.self.items ≡ old ++ c.in-Ok.pair ∷ [] = c.in-Ok-push.ensures.items in (
       omega (arith, ap length new, length-append old (c.in-Ok.pair ∷ [])),
-      ap (λ (xs : List (Key × Coef)). coefs_before xs c.in-Ok.rest.now) new ∙ coefs_before-push old c.in-Ok.pair c.in-Ok.rest.now ∙ ap (coefs_before old) (sym c.in-Ok.ensures.takes.2),
+      ap (λ (xs : List (Key × Coef)). coefs_before xs c.in-Ok.rest.now) new ∙ coefs_before-push old c.in-Ok.pair c.in-Ok.rest.now
+          ∙ ap (coefs_before old) (sym c.in-Ok.ensures.takes.2),
     )

@@ -12,5 +12,6 @@ loop-row-preserved c =
     let k = c.loop-row.row-index in
     let r = get_or rows k d in
     let out = c.args.out.now.items in
-    λ tail. c.in_ok-put_row.ensures tail ∙ c.loop-row.invariant (row_before r tail) ∙ ap (λ (p : List ℕ). out ++ p) (sym (rows_all_before-push (take k rows) r tail))
+    λ tail. c.in_ok-put_row.ensures tail ∙ c.loop-row.invariant (row_before r tail)
+    ∙ ap (λ (p : List ℕ). out ++ p) (sym (rows_all_before-push (take k rows) r tail))
     ∙ ap (λ (xs : List Row). out ++ rows_all_before xs tail) (sym (take_more rows k d (omega arith)))

@@ -13,5 +13,6 @@ loop-pair-preserved c =
     let k = c.loop-pair.pair-index in
     let e = get_or coefs k d in
     let out = c.args.out.now.items in
-    λ tail. c.in_ok-put_coef.ensures tail ∙ c.loop-pair.invariant (coef_before e tail) ∙ ap (λ (p : List ℕ). out ++ p) (sym (coefs_before-push (take k coefs) e tail))
+    λ tail. c.in_ok-put_coef.ensures tail ∙ c.loop-pair.invariant (coef_before e tail)
+    ∙ ap (λ (p : List ℕ). out ++ p) (sym (coefs_before-push (take k coefs) e tail))
     ∙ ap (λ (xs : List (Key × Coef)). out ++ coefs_before xs tail) (sym (take_more coefs k d (omega arith)))

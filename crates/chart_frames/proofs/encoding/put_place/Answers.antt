@@ -25,6 +25,8 @@ returns c =
     two_step i5 i4 v.t0 v.t1 (tail) fits_t0 fits_t1 h
     ∙ step i4 i3 (number_bytes 2 v.h) (two_before v.t0 v.t1 (tail)) c.in_ok-put_short-3.ensures
     ∙ step i3 i2 (number_bytes 2 v.w) (number_bytes 2 v.h ++ (two_before v.t0 v.t1 (tail))) c.in_ok-put_short-2.ensures
-    ∙ step i2 i1 (number_bytes 2 v.series) (number_bytes 2 v.w ++ (number_bytes 2 v.h ++ (two_before v.t0 v.t1 (tail)))) c.in_ok-put_short.ensures
-    ∙ step i1 i0 (number_bytes 4 v.session) (number_bytes 2 v.series ++ (number_bytes 2 v.w ++ (number_bytes 2 v.h ++ (two_before v.t0 v.t1 (tail))))) c.in_ok-put_word.ensures in
+    ∙ step i2 i1 (number_bytes 2 v.series) (number_bytes 2 v.w ++ (number_bytes 2 v.h ++ (two_before v.t0 v.t1 (tail))))
+    c.in_ok-put_short.ensures
+    ∙ step i1 i0 (number_bytes 4 v.session) (number_bytes 2
+    v.series ++ (number_bytes 2 v.w ++ (number_bytes 2 v.h ++ (two_before v.t0 v.t1 (tail))))) c.in_ok-put_word.ensures in
     on_ok_weaker c.put_two.result go c.put_two.ensures

@@ -25,6 +25,8 @@ returns c =
     step i5 i4 (number_bytes 2 v.count) (tail) h
     ∙ two_step i4 i3 v.lo v.hi (number_bytes 2 v.count ++ (tail)) fits_lo fits_hi c.in_ok-put_two.ensures
     ∙ step i3 i2 (number_bytes 2 v.h) (two_before v.lo v.hi (number_bytes 2 v.count ++ (tail))) c.in_ok-put_short-2.ensures
-    ∙ step i2 i1 (number_bytes 2 v.w) (number_bytes 2 v.h ++ (two_before v.lo v.hi (number_bytes 2 v.count ++ (tail)))) c.in_ok-put_short.ensures
-    ∙ step i1 i0 (number_bytes 4 v.session) (number_bytes 2 v.w ++ (number_bytes 2 v.h ++ (two_before v.lo v.hi (number_bytes 2 v.count ++ (tail))))) c.in_ok-put_word.ensures in
+    ∙ step i2 i1 (number_bytes 2 v.w) (number_bytes 2 v.h ++ (two_before v.lo v.hi (number_bytes 2 v.count ++ (tail))))
+    c.in_ok-put_short.ensures
+    ∙ step i1 i0 (number_bytes 4 v.session) (number_bytes 2
+    v.w ++ (number_bytes 2 v.h ++ (two_before v.lo v.hi (number_bytes 2 v.count ++ (tail))))) c.in_ok-put_word.ensures in
     on_ok_weaker c.put_short-3.result go c.put_short-3.ensures

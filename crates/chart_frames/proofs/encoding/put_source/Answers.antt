@@ -30,8 +30,14 @@ returns c =
     step i7 i6 (number_bytes 4 v.count) (tail) h
     ∙ two_step i6 i5 v.rmin v.rmax (number_bytes 4 v.count ++ (tail)) fits_rmin fits_rmax c.in_ok-put_two-2.ensures
     ∙ step i5 i4 (number_bytes 1 v.has) (two_before v.rmin v.rmax (number_bytes 4 v.count ++ (tail))) c.in_ok-put_byte.ensures
-    ∙ step i4 i3 (number_bytes 8 v.slots) (number_bytes 1 v.has ++ (two_before v.rmin v.rmax (number_bytes 4 v.count ++ (tail)))) c.in_ok-put_long.ensures
-    ∙ step i3 i2 (number_bytes 4 v.step) (number_bytes 8 v.slots ++ (number_bytes 1 v.has ++ (two_before v.rmin v.rmax (number_bytes 4 v.count ++ (tail))))) c.in_ok-put_word.ensures
-    ∙ signed_step i2 i1 v.start (number_bytes 4 v.step ++ (number_bytes 8 v.slots ++ (number_bytes 1 v.has ++ (two_before v.rmin v.rmax (number_bytes 4 v.count ++ (tail)))))) fits_start c.in_ok-put_signed.ensures
-    ∙ two_step i1 i0 v.lo v.hi (signed_bytes v.start ++ (number_bytes 4 v.step ++ (number_bytes 8 v.slots ++ (number_bytes 1 v.has ++ (two_before v.rmin v.rmax (number_bytes 4 v.count ++ (tail))))))) fits_lo fits_hi c.in_ok-put_two.ensures in
+    ∙ step i4 i3 (number_bytes 8 v.slots) (number_bytes 1 v.has ++ (two_before v.rmin v.rmax (number_bytes 4 v.count ++ (tail))))
+    c.in_ok-put_long.ensures
+    ∙ step i3 i2 (number_bytes 4 v.step) (number_bytes 8
+    v.slots ++ (number_bytes 1 v.has ++ (two_before v.rmin v.rmax (number_bytes 4 v.count ++ (tail))))) c.in_ok-put_word.ensures
+    ∙ signed_step i2 i1 v.start (number_bytes 4 v.step ++ (number_bytes 8
+    v.slots ++ (number_bytes 1 v.has ++ (two_before v.rmin v.rmax (number_bytes 4 v.count ++ (tail)))))) fits_start
+    c.in_ok-put_signed.ensures
+    ∙ two_step i1 i0 v.lo v.hi (signed_bytes v.start ++ (number_bytes 4
+    v.step ++ (number_bytes 8 v.slots ++ (number_bytes 1 v.has ++ (two_before v.rmin v.rmax (number_bytes 4 v.count ++ (tail)))))))
+    fits_lo fits_hi c.in_ok-put_two.ensures in
     on_ok_weaker c.put_word-2.result go c.put_word-2.ensures

@@ -7,7 +7,11 @@ pub returns-clause-takes : goal.returns-clause-takes
 returns-clause-takes c =
     let same : to_z w64 (of_z w64 c.in_ok-t0.t0) ≡ c.in_ok-t0.t0 = search rules in
     let same' : to_z w64 (of_z w64 c.in_ok-t1.t1) ≡ c.in_ok-t1.t1 = search rules in (
-      record { from = c.if-not-is_time.ensures.0 refl; to = c.if-not-is_time-2.ensures.0 refl; forward = omega (arith, ints, c.if-t1-t0.false) },
+      record {
+        from = c.if-not-is_time.ensures.0 refl;
+        to = c.if-not-is_time-2.ensures.0 refl;
+        forward = omega (arith, ints, c.if-t1-t0.false);
+      },
       c.in_ok-t0.ensures.takes ∙ ap (λ tail. signed_bytes c.in_ok-t0.t0 ++ tail) c.in_ok-t1.ensures.takes
           ∙ ap (λ z. two_before z c.in_ok-t1.t1 c.in_ok-t1.after.now) (sym same)
           ∙ ap (λ z. two_before (to_z w64 (of_z w64 c.in_ok-t0.t0)) z c.in_ok-t1.after.now) (sym same'),

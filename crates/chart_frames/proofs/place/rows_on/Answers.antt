@@ -7,4 +7,5 @@ use Rattle.chart_frames.proofs.place.rows_on.Goals as goal
 pub returns-in-Ok-clause-ok : goal.returns-in-Ok-clause-ok
 returns-in-Ok-clause-ok c =
     let P : Frame → Type 0 = λ f. Leaves c.args.bytes.now f c.in-Ok.left in
-    subst P (sym c.whole_rows.ensures) (rows_leaves c.args.bytes.now c.args.frame c.more_rows.new.rows.items c.in-Ok.left c.in-Ok.ensures.reached c.in-Ok.ensures.ok)
+    subst P (sym c.whole_rows.ensures) (rows_leaves c.args.bytes.now c.args.frame c.more_rows.new.rows.items c.in-Ok.left
+    c.in-Ok.ensures.reached c.in-Ok.ensures.ok)

@@ -21,6 +21,8 @@ returns c =
     let Q : Type 0 = (tail : List ℕ) → i3 ++ tail ≡ i0 ++ asked_before v.series (number_of_flag v.more) v.next tail in
     let go : P → Q = λ h tail.
     signed_step i3 i2 v.next tail fits_next h
-    ∙ step i2 i1 (number_bytes 1 (number_of_flag v.more)) (signed_bytes v.next ++ tail) (c.in_ok-put_byte.ensures ∙ ap (λ (n : ℕ). i1 ++ number_bytes 1 n) c.number_of_flag.ensures)
-    ∙ step i1 i0 (number_bytes 2 v.series) (number_bytes 1 (number_of_flag v.more) ++ (signed_bytes v.next ++ tail)) c.in_ok-put_short.ensures in
+    ∙ step i2 i1 (number_bytes 1 (number_of_flag v.more)) (signed_bytes v.next ++ tail) (c.in_ok-put_byte.ensures
+    ∙ ap (λ (n : ℕ). i1 ++ number_bytes 1 n) c.number_of_flag.ensures)
+    ∙ step i1 i0 (number_bytes 2 v.series) (number_bytes 1 (number_of_flag v.more) ++ (signed_bytes v.next ++ tail))
+    c.in_ok-put_short.ensures in
     on_ok_weaker c.put_signed.result go c.put_signed.ensures

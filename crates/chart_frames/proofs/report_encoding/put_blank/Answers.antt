@@ -9,4 +9,5 @@ blank_put (Ok a) new old s t e f = e ∙ ap (λ (p : List ℕ). old ++ p) f
 blank_put (Err x) new old s t e f = tt
 
 pub returns : goal.returns
-returns c = blank_put c.extend_from_slice.result c.extend_from_slice.new.self.items c.args.out.now.items _ _ c.extend_from_slice.ensures.items (take-replicate c.args.count 31 0 c.requires)
+returns c = blank_put c.extend_from_slice.result c.extend_from_slice.new.self.items c.args.out.now.items _ _
+    c.extend_from_slice.ensures.items (take-replicate c.args.count 31 0 c.requires)

@@ -27,7 +27,11 @@ returns c =
     two_step i6 i5 v.rmin v.rmax tail fits_rmin fits_rmax h
     ∙ step i5 i4 (number_bytes 1 v.has) (two_before v.rmin v.rmax tail) c.in_ok-put_byte-2.ensures
     ∙ step i4 i3 (number_bytes 8 v.slots) (number_bytes 1 v.has ++ two_before v.rmin v.rmax tail) c.in_ok-put_long.ensures
-    ∙ step i3 i2 (number_bytes 4 v.step) (number_bytes 8 v.slots ++ (number_bytes 1 v.has ++ two_before v.rmin v.rmax tail)) c.in_ok-put_word.ensures
-    ∙ signed_step i2 i1 v.start (number_bytes 4 v.step ++ (number_bytes 8 v.slots ++ (number_bytes 1 v.has ++ two_before v.rmin v.rmax tail))) fits_start c.in_ok-put_signed.ensures
-    ∙ step i1 i0 (number_bytes 1 v.scale) (signed_bytes v.start ++ (number_bytes 4 v.step ++ (number_bytes 8 v.slots ++ (number_bytes 1 v.has ++ two_before v.rmin v.rmax tail)))) c.in_ok-put_byte.ensures in
+    ∙ step i3 i2 (number_bytes 4 v.step) (number_bytes 8 v.slots ++ (number_bytes 1 v.has ++ two_before v.rmin v.rmax tail))
+    c.in_ok-put_word.ensures
+    ∙ signed_step i2 i1 v.start (number_bytes 4 v.step ++ (number_bytes 8
+    v.slots ++ (number_bytes 1 v.has ++ two_before v.rmin v.rmax tail))) fits_start c.in_ok-put_signed.ensures
+    ∙ step i1 i0 (number_bytes 1 v.scale) (signed_bytes
+    v.start ++ (number_bytes 4 v.step ++ (number_bytes 8 v.slots ++ (number_bytes 1 v.has ++ two_before v.rmin v.rmax tail))))
+    c.in_ok-put_byte.ensures in
     on_ok_weaker c.put_two.result go c.put_two.ensures

@@ -27,5 +27,6 @@ returns c =
     step i3 i2 blank tail h
     ∙ step i2 i1 name (blank ++ tail) c.in_ok-extend_from_slice.ensures.items
     ∙ step i1 i0 (number_bytes 1 (length name)) (name ++ (blank ++ tail)) c.in_ok-put_byte.ensures
-    ∙ ap (λ (p : List ℕ). i0 ++ (number_bytes 1 (length name) ++ p)) (sym (append_assoc name blank tail) ∙ ap (λ (p : List ℕ). p ++ tail) (sym (name_padded name c.requires))) in
+    ∙ ap (λ (p : List ℕ). i0 ++ (number_bytes 1 (length name) ++ p)) (sym (append_assoc name blank tail)
+    ∙ ap (λ (p : List ℕ). p ++ tail) (sym (name_padded name c.requires))) in
     on_ok_weaker c.put_blank.result go c.put_blank.ensures

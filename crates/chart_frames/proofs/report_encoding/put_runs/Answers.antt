@@ -12,5 +12,6 @@ loop-run-preserved c =
     let k = c.loop-run.run-index in
     let r = get_or runs k d in
     let out = c.args.out.now.items in
-    λ tail. c.in_ok-put_run.ensures tail ∙ c.loop-run.invariant (run_before r tail) ∙ ap (λ (p : List ℕ). out ++ p) (sym (runs_before-push (take k runs) r tail))
+    λ tail. c.in_ok-put_run.ensures tail ∙ c.loop-run.invariant (run_before r tail)
+    ∙ ap (λ (p : List ℕ). out ++ p) (sym (runs_before-push (take k runs) r tail))
     ∙ ap (λ (xs : List Run). out ++ runs_before xs tail) (sym (take_more runs k d (omega arith)))

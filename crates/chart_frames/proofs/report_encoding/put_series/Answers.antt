@@ -11,6 +11,7 @@ loop-s-preserved c =
     let k = c.loop-s.s-index in
     let s = c.s-item.result in
     let out = c.args.out.now.items in
-    λ tail. c.in_ok-put_listed.ensures tail ∙ c.loop-s.invariant (listed_before s tail) ∙ ap (λ (p : List ℕ). out ++ p) (sym (series_before-push (take k series) s tail))
+    λ tail. c.in_ok-put_listed.ensures tail ∙ c.loop-s.invariant (listed_before s tail)
+    ∙ ap (λ (p : List ℕ). out ++ p) (sym (series_before-push (take k series) s tail))
     ∙ ap (λ (x : ListedSeries). out ++ series_before (take k series ++ x ∷ []) tail) c.s-item.is
     ∙ ap (λ (xs : List ListedSeries). out ++ series_before xs tail) (sym (take_more series k s (omega arith)))

@@ -15,6 +15,7 @@ loop-value-preserved c =
     let v = get_or values k (pos 0) in
     let small : IsValue v = c.requires k (pos 0) (omega arith) in
     let out = c.args.out.now.items in
-    λ tail. signed_step c.put_signed.new.out.items c.loop-value.out.items v tail (fits_signed_from_abs w64 v (omega (arith, small))) c.in_ok-put_signed.ensures
+    λ tail. signed_step c.put_signed.new.out.items c.loop-value.out.items v tail
+    (fits_signed_from_abs w64 v (omega (arith, small))) c.in_ok-put_signed.ensures
     ∙ c.loop-value.invariant (signed_bytes v ++ tail) ∙ ap (λ (p : List ℕ). out ++ p) (sym (values_before-push (take k values) v tail))
     ∙ ap (λ (xs : List ℤ). out ++ values_before xs tail) (sym (take_more values k (pos 0) (omega arith)))

@@ -8,5 +8,6 @@ pub returns-in-Err-clause-err : goal.returns-in-Err-clause-err
 returns-in-Err-clause-err c = (
   c.loop.rest.now,
   ap (λ (xs : List Row). rows_all_before xs c.loop.rest.now) c.in-Err.ensures.unchanged ∙ c.loop.invariant.same,
-  rows_ended c.in-Err.stop c.args.w c.loop.rows.items c.push_row.new.rows.items c.args.count c.loop.rest.now (omega arith) c.in-Err.ensures.unchanged c.in-Err.ensures.err,
+  rows_ended c.in-Err.stop c.args.w c.loop.rows.items c.push_row.new.rows.items c.args.count c.loop.rest.now
+      (omega arith) c.in-Err.ensures.unchanged c.in-Err.ensures.err,
 )

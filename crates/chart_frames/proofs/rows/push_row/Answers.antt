@@ -21,5 +21,6 @@ returns-in-Ok-push-clause-ok c =
     let old = c.args.rows.now.items in
     let new : c.push.new.self.items ≡ old ++ c.in-Ok.row ∷ [] = c.in-Ok-push.ensures.items in (
       omega (arith, ap length new, length-append old (c.in-Ok.row ∷ [])),
-      ap (λ (xs : List Row). rows_all_before xs c.in-Ok.rest.now) new ∙ rows_all_before-push old c.in-Ok.row c.in-Ok.rest.now ∙ ap (rows_all_before old) (sym c.in-Ok.ensures.takes.2),
+      ap (λ (xs : List Row). rows_all_before xs c.in-Ok.rest.now) new ∙ rows_all_before-push old c.in-Ok.row c.in-Ok.rest.now
+          ∙ ap (rows_all_before old) (sym c.in-Ok.ensures.takes.2),
     )

@@ -21,4 +21,5 @@ returns-in-Ok-push-clause-ok c =
     }
 
 pub returns-in-Err-clause-err : goal.returns-in-Err-clause-err
-returns-in-Err-clause-err c = λ next. run_failed (stops.Stop c.in-Err.stop) c.args.room c.args.behind next c.args.bytes.now c.in-Err.ensures.reads
+returns-in-Err-clause-err c = λ next. run_failed (stops.Stop c.in-Err.stop) c.args.room c.args.behind next c.args.bytes.now
+    c.in-Err.ensures.reads

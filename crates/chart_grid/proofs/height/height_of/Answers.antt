@@ -14,7 +14,8 @@ returns-else-lo-v-clause-value c =
     let n : c.share_up.result ≡ div_ceil (c.gap-else-lo-v.result * (c.args.h - 1)) c.gap-span.result =
     c.share_up.ensures ∙ ap (λ k. div_ceil (c.gap-else-lo-v.result * k) c.gap-span.result) c.saturating_sub-steps.ensures in
     to_z-of_z w128 c.below.result (search rules)
-    ∙ below_is c.args.v c.args.lo c.args.hi c.args.h _ _ _ _ wide down (simp to_z-of_z at c.gap-else-lo-v.ensures) (simp to_z-of_z at c.gap-span.ensures) n c.below.ensures
+    ∙ below_is c.args.v c.args.lo c.args.hi c.args.h _ _ _ _ wide down (simp to_z-of_z at c.gap-else-lo-v.ensures)
+    (simp to_z-of_z at c.gap-span.ensures) n c.below.ensures
 
 pub returns-else-lo-v-clause-floor : goal.returns-else-lo-v-clause-floor
 returns-else-lo-v-clause-floor c =
@@ -33,7 +34,8 @@ returns-then-lo-v-clause-value c =
     let n : c.share.result ≡ c.gap.result * (c.args.h - 1) / c.gap-span.result =
     c.share.ensures ∙ ap (λ k. c.gap.result * k / c.gap-span.result) c.saturating_sub-steps.ensures in
     to_z-of_z w128 c.above.result (search rules)
-    ∙ above_is c.args.v c.args.lo c.args.hi c.args.h _ _ _ _ wide up (simp to_z-of_z at c.gap.ensures) (simp to_z-of_z at c.gap-span.ensures) n c.above.ensures
+    ∙ above_is c.args.v c.args.lo c.args.hi c.args.h _ _ _ _ wide up (simp to_z-of_z at c.gap.ensures)
+    (simp to_z-of_z at c.gap-span.ensures) n c.above.ensures
 
 pub returns-then-lo-v-clause-floor : goal.returns-then-lo-v-clause-floor
 returns-then-lo-v-clause-floor c =

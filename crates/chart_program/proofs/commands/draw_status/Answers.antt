@@ -24,14 +24,20 @@ returns-clause-ends g c =
     let sent = g.W.Streams.sent in
     let old = c.args.world.now in
     let new = c.draw-answer.new.streams in
-    let faults = faults_of (g.W.Streams.read_faults old) (g.W.Streams.read_faults new) (g.W.Streams.send_faults old) (g.W.Streams.send_faults new) in
+    let faults = faults_of (g.W.Streams.read_faults old) (g.W.Streams.read_faults new) (g.W.Streams.send_faults old)
+    (g.W.Streams.send_faults new) in
     let e = c.draw-answer.ensures in
-    let S : Status → Type 0 = λ s. CommandEnds Draw (view old) (view new) (left old) (left new) (sent old) (sent new) faults s.code s.place in
-    let E : End → Type 0 = λ x. CommandEnds Draw (view old) (view new) (left old) (left new) (sent old) (sent new) faults (code_of x) (place_of x) in
+    let S : Status → Type 0 = λ s. CommandEnds Draw (view old) (view new) (left old) (left new) (sent old)
+    (sent new) faults s.code s.place in
+    let E : End → Type 0 = λ x. CommandEnds Draw (view old) (view new) (left old) (left new) (sent old) (sent new) faults (code_of x)
+    (place_of x) in
     subst S (sym c.status_of.ensures.status)
     (subst E (sym c.drawing_end.ensures)
-    (drawn (view old) (view new) (left old) (left new) (sent old) (sent new) faults (record { one = c.one_frame_a_spelling.ensures; told = c.length_is_told.ensures; good = c.spellings_are_good.ensures }) c.more_bytes_mend_nothing.ensures.stays
-    c.frames_draw_the_book.ensures.book c.frames_draw_the_book.ensures.good c.draw-answer.result e.done (read_on c.draw-answer.result (left old) (left new) e.within e.whole) e.ends e.read e.send e.disk))
+    (drawn (view old) (view new) (left old) (left new) (sent old) (sent new) faults
+    (record { one = c.one_frame_a_spelling.ensures; told = c.length_is_told.ensures; good = c.spellings_are_good.ensures })
+    c.more_bytes_mend_nothing.ensures.stays
+    c.frames_draw_the_book.ensures.book c.frames_draw_the_book.ensures.good c.draw-answer.result e.done
+    (read_on c.draw-answer.result (left old) (left new) e.within e.whole) e.ends e.read e.send e.disk))
 
 pub returns-clause-faults : goal.returns-clause-faults
 returns-clause-faults g c =
@@ -43,12 +49,22 @@ returns-clause-faults g c =
     let e = c.draw-answer.ensures in
     let E : End → Type 0 = λ x. CountsFault (end_fault x) (view old) (view new) in
     counts_end c.drawing_end.result c.status_of.result (view old) (view new) c.status_of.ensures.status
-    (subst E (sym c.drawing_end.ensures) (counts_drawn view g.W.Streams.read_faults g.W.Streams.send_faults w.beside_read_faults w.beside_send_faults old new e.disk.kept answer e.read e.send e.quiet_reads e.quiet_sends))
+    (subst E (sym c.drawing_end.ensures) (counts_drawn view g.W.Streams.read_faults g.W.Streams.send_faults w.beside_read_faults
+    w.beside_send_faults old new e.disk.kept answer e.read e.send e.quiet_reads e.quiet_sends))
 
 pub returns-clause-does : goal.returns-clause-does
 returns-clause-does g c =
     let at = course g.W.Disk.view g.W.Streams.left g.W.Streams.sent c.args.world.now c.draw-answer.new.streams in
     let e = c.draw-answer.ensures in
-    let known : Known = record { one = c.one_frame_a_spelling.ensures; told = c.length_is_told.ensures; good = c.spellings_are_good.ensures } in
-    let E : End → Type 0 = λ x. Draws None at x in
-    (c.drawing_end.result, c.status_of.ensures.status, subst E (sym c.drawing_end.ensures) (drawn_by at None known c.more_bytes_mend_nothing.ensures.stays c.frames_draw_the_book.ensures.book c.frames_draw_the_book.ensures.good c.draw-answer.result e.done (read_on c.draw-answer.result at.left at.left_now e.within e.whole) e.ends e.disk))
+    let known : Known = record {
+      one = c.one_frame_a_spelling.ensures;
+      told = c.length_is_told.ensures;
+      good = c.spellings_are_good.ensures;
+    } in
+    let E : End → Type 0 = λ x. Draws None at x in (
+      c.drawing_end.result,
+      c.status_of.ensures.status,
+      subst E (sym c.drawing_end.ensures) (drawn_by at None known c.more_bytes_mend_nothing.ensures.stays
+          c.frames_draw_the_book.ensures.book c.frames_draw_the_book.ensures.good c.draw-answer.result e.done
+          (read_on c.draw-answer.result at.left at.left_now e.within e.whole) e.ends e.disk),
+    )

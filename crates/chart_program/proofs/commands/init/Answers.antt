@@ -38,7 +38,8 @@ returns-in-Err-clause-away g c = λ few.
     (sym (w.beside_sent new) ∙ ap (λ (b : Beside). b.sent) e.beside ∙ w.beside_sent old) few)
 
 pub returns-in-Ok-clause-faults : goal.returns-in-Ok-clause-faults
-returns-in-Ok-clause-faults g c = counts_no_disk (g.W.Disk.view c.args.world) (g.W.Disk.view c.in-Ok.world) c.in-Ok.ensures.beside c.in-Ok.ensures.quiet
+returns-in-Ok-clause-faults g c = counts_no_disk (g.W.Disk.view c.args.world)
+    (g.W.Disk.view c.in-Ok.world) c.in-Ok.ensures.beside c.in-Ok.ensures.quiet
 
 pub returns-in-Err-clause-faults : goal.returns-in-Err-clause-faults
 returns-in-Err-clause-faults g c =

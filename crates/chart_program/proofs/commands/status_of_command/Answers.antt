@@ -39,7 +39,8 @@ returns-in-Plot-clause-ends g c =
     let new = c.plot_status-status.new.world in
     let status = c.plot_status-status.result in
     let faults = faults_of (reads old) (reads new) (sends old) (sends new) in
-    let P : Command → Type 0 = λ command. CommandEnds command (view old) (view new) (left old) (left new) (sent old) (sent new) faults status.code status.place in
+    let P : Command → Type 0 = λ command. CommandEnds command (view old) (view new) (left old) (left new) (sent old)
+    (sent new) faults status.code status.place in
     subst P (sym c.in-Plot.is) c.plot_status-status.ensures.ends
 
 pub returns-in-Load-clause-ends : goal.returns-in-Load-clause-ends
@@ -54,14 +55,18 @@ returns-in-Load-clause-ends g c =
     let end = c.load_series-end.result.0 in
     let e = c.load_series-end.ensures in
     let faults = faults_of (reads old) (reads new) (sends old) (sends new) in
-    let P : Command → Type 0 = λ command. CommandEnds command (view old) (view new) (left old) (left new) (sent old) (sent new) faults (code_of end) (place_of end) in
-    let S : Status → Type 0 = λ s. CommandEnds c.args.command (view old) (view new) (left old) (left new) (sent old) (sent new) faults s.code s.place in
+    let P : Command → Type 0 = λ command. CommandEnds command (view old) (view new) (left old) (left new) (sent old) (sent new) faults
+    (code_of end) (place_of end) in
+    let S : Status → Type 0 = λ s. CommandEnds c.args.command (view old) (view new) (left old) (left new) (sent old)
+    (sent new) faults s.code s.place in
     subst S (sym c.status_of.ensures.status)
-    (subst P (sym c.in-Load.is) (load_ends c.in-Load.name (view old) (view new) (left old) (left new) (sent old) (sent new) faults end e.ends e.away e.holds))
+    (subst P (sym c.in-Load.is) (load_ends c.in-Load.name (view old) (view new) (left old) (left new) (sent old)
+    (sent new) faults end e.ends e.away e.holds))
 
 pub returns-in-Load-clause-faults : goal.returns-in-Load-clause-faults
 returns-in-Load-clause-faults g c =
-    counts_end c.load_series-end.result.0 c.status_of.result (g.W.Disk.view c.args.world) (g.W.Disk.view c.load_series-end.result.1) c.status_of.ensures.status c.load_series-end.ensures.faults
+    counts_end c.load_series-end.result.0 c.status_of.result (g.W.Disk.view c.args.world)
+    (g.W.Disk.view c.load_series-end.result.1) c.status_of.ensures.status c.load_series-end.ensures.faults
 
 pub returns-in-Demo-clause-ends : goal.returns-in-Demo-clause-ends
 returns-in-Demo-clause-ends g c =
@@ -75,14 +80,18 @@ returns-in-Demo-clause-ends g c =
     let end = c.run_demo-end.result.0 in
     let e = c.run_demo-end.ensures in
     let faults = faults_of (reads old) (reads new) (sends old) (sends new) in
-    let P : Command → Type 0 = λ command. CommandEnds command (view old) (view new) (left old) (left new) (sent old) (sent new) faults (code_of end) (place_of end) in
-    let S : Status → Type 0 = λ s. CommandEnds c.args.command (view old) (view new) (left old) (left new) (sent old) (sent new) faults s.code s.place in
+    let P : Command → Type 0 = λ command. CommandEnds command (view old) (view new) (left old) (left new) (sent old) (sent new) faults
+    (code_of end) (place_of end) in
+    let S : Status → Type 0 = λ s. CommandEnds c.args.command (view old) (view new) (left old) (left new) (sent old)
+    (sent new) faults s.code s.place in
     subst S (sym c.status_of-in-Demo.ensures.status)
-    (subst P (sym c.in-Demo.is) (demo_ends (view old) (view new) (left old) (left new) (sent old) (sent new) faults c.in-Demo.seed c.in-Demo.count end e.ends e.away e.untaken e.holds))
+    (subst P (sym c.in-Demo.is) (demo_ends (view old) (view new) (left old) (left new) (sent old)
+    (sent new) faults c.in-Demo.seed c.in-Demo.count end e.ends e.away e.untaken e.holds))
 
 pub returns-in-Demo-clause-faults : goal.returns-in-Demo-clause-faults
 returns-in-Demo-clause-faults g c =
-    counts_end c.run_demo-end.result.0 c.status_of-in-Demo.result (g.W.Disk.view c.args.world) (g.W.Disk.view c.run_demo-end.result.1) c.status_of-in-Demo.ensures.status c.run_demo-end.ensures.faults
+    counts_end c.run_demo-end.result.0 c.status_of-in-Demo.result (g.W.Disk.view c.args.world)
+    (g.W.Disk.view c.run_demo-end.result.1) c.status_of-in-Demo.ensures.status c.run_demo-end.ensures.faults
 
 pub returns-in-Run-clause-ends : goal.returns-in-Run-clause-ends
 returns-in-Run-clause-ends g c =
@@ -96,8 +105,10 @@ returns-in-Run-clause-ends g c =
     let status = c.run_status.result.0 in
     let e = c.run_status.ensures in
     let faults = faults_of (reads old) (reads new) (sends old) (sends new) in
-    let P : Command → Type 0 = λ command. CommandEnds command (view old) (view new) (left old) (left new) (sent old) (sent new) faults status.code status.place in
-    subst P (sym c.in-Run.is) (run_ends (view old) (view new) (left old) (left new) (sent old) (sent new) faults status.code status.place e.ends e.own e.away e.bars)
+    let P : Command → Type 0 = λ command. CommandEnds command (view old) (view new) (left old) (left new) (sent old)
+    (sent new) faults status.code status.place in
+    subst P (sym c.in-Run.is) (run_ends (view old) (view new) (left old) (left new) (sent old)
+    (sent new) faults status.code status.place e.ends e.own e.away e.bars)
 
 pub returns-in-Serve-clause-ends : goal.returns-in-Serve-clause-ends
 returns-in-Serve-clause-ends g c =
@@ -111,8 +122,10 @@ returns-in-Serve-clause-ends g c =
     let status = c.serve_status.result.0 in
     let e = c.serve_status.ensures in
     let faults = faults_of (reads old) (reads new) (sends old) (sends new) in
-    let P : Command → Type 0 = λ command. CommandEnds command (view old) (view new) (left old) (left new) (sent old) (sent new) faults status.code status.place in
-    subst P (sym c.in-Serve.is) (serve_ends (view old) (view new) (left old) (left new) (sent old) (sent new) faults status.code status.place e.ends e.own e.away e.bars)
+    let P : Command → Type 0 = λ command. CommandEnds command (view old) (view new) (left old) (left new) (sent old)
+    (sent new) faults status.code status.place in
+    subst P (sym c.in-Serve.is) (serve_ends (view old) (view new) (left old) (left new) (sent old)
+    (sent new) faults status.code status.place e.ends e.own e.away e.bars)
 
 pub returns-in-Draw-clause-ends : goal.returns-in-Draw-clause-ends
 returns-in-Draw-clause-ends g c =
@@ -125,7 +138,8 @@ returns-in-Draw-clause-ends g c =
     let new = c.draw_status-status.new.world in
     let status = c.draw_status-status.result in
     let faults = faults_of (reads old) (reads new) (sends old) (sends new) in
-    let P : Command → Type 0 = λ command. CommandEnds command (view old) (view new) (left old) (left new) (sent old) (sent new) faults status.code status.place in
+    let P : Command → Type 0 = λ command. CommandEnds command (view old) (view new) (left old) (left new) (sent old)
+    (sent new) faults status.code status.place in
     subst P (sym c.in-Draw.is) c.draw_status-status.ensures.ends
 
 pub returns-in-Init-clause-ends : goal.returns-in-Init-clause-ends
@@ -140,14 +154,18 @@ returns-in-Init-clause-ends g c =
     let end = c.init-end.result.0 in
     let e = c.init-end.ensures in
     let faults = faults_of (reads old) (reads new) (sends old) (sends new) in
-    let P : Command → Type 0 = λ command. CommandEnds command (view old) (view new) (left old) (left new) (sent old) (sent new) faults (code_of end) (place_of end) in
-    let S : Status → Type 0 = λ s. CommandEnds c.args.command (view old) (view new) (left old) (left new) (sent old) (sent new) faults s.code s.place in
+    let P : Command → Type 0 = λ command. CommandEnds command (view old) (view new) (left old) (left new) (sent old) (sent new) faults
+    (code_of end) (place_of end) in
+    let S : Status → Type 0 = λ s. CommandEnds c.args.command (view old) (view new) (left old) (left new) (sent old)
+    (sent new) faults s.code s.place in
     subst S (sym c.status_of-in-Init.ensures.status)
-    (subst P (sym c.in-Init.is) (init_ends (view old) (view new) (left old) (left new) (sent old) (sent new) faults end e.ends e.away e.untaken e.sent e.disk e.honest e.ready))
+    (subst P (sym c.in-Init.is) (init_ends (view old) (view new) (left old) (left new) (sent old)
+    (sent new) faults end e.ends e.away e.untaken e.sent e.disk e.honest e.ready))
 
 pub returns-in-Init-clause-faults : goal.returns-in-Init-clause-faults
 returns-in-Init-clause-faults g c =
-    counts_end c.init-end.result.0 c.status_of-in-Init.result (g.W.Disk.view c.args.world) (g.W.Disk.view c.init-end.result.1) c.status_of-in-Init.ensures.status c.init-end.ensures.faults
+    counts_end c.init-end.result.0 c.status_of-in-Init.result (g.W.Disk.view c.args.world)
+    (g.W.Disk.view c.init-end.result.1) c.status_of-in-Init.ensures.status c.init-end.ensures.faults
 
 pub returns-in-Check-clause-ends : goal.returns-in-Check-clause-ends
 returns-in-Check-clause-ends g c =
@@ -161,14 +179,18 @@ returns-in-Check-clause-ends g c =
     let end = c.check_store-end.result.0 in
     let e = c.check_store-end.ensures in
     let faults = faults_of (reads old) (reads new) (sends old) (sends new) in
-    let P : Command → Type 0 = λ command. CommandEnds command (view old) (view new) (left old) (left new) (sent old) (sent new) faults (code_of end) (place_of end) in
-    let S : Status → Type 0 = λ s. CommandEnds c.args.command (view old) (view new) (left old) (left new) (sent old) (sent new) faults s.code s.place in
+    let P : Command → Type 0 = λ command. CommandEnds command (view old) (view new) (left old) (left new) (sent old) (sent new) faults
+    (code_of end) (place_of end) in
+    let S : Status → Type 0 = λ s. CommandEnds c.args.command (view old) (view new) (left old) (left new) (sent old)
+    (sent new) faults s.code s.place in
     subst S (sym c.status_of-in-Check.ensures.status)
-    (subst P (sym c.in-Check.is) (check_ends (view old) (view new) (left old) (left new) (sent old) (sent new) faults end e.ends e.away e.untaken))
+    (subst P (sym c.in-Check.is) (check_ends (view old) (view new) (left old) (left new) (sent old)
+    (sent new) faults end e.ends e.away e.untaken))
 
 pub returns-in-Check-clause-faults : goal.returns-in-Check-clause-faults
 returns-in-Check-clause-faults g c =
-    counts_end c.check_store-end.result.0 c.status_of-in-Check.result (g.W.Disk.view c.args.world) (g.W.Disk.view c.check_store-end.result.1) c.status_of-in-Check.ensures.status c.check_store-end.ensures.faults
+    counts_end c.check_store-end.result.0 c.status_of-in-Check.result (g.W.Disk.view c.args.world)
+    (g.W.Disk.view c.check_store-end.result.1) c.status_of-in-Check.ensures.status c.check_store-end.ensures.faults
 
 pub returns-in-ListSeries-clause-ends : goal.returns-in-ListSeries-clause-ends
 returns-in-ListSeries-clause-ends g c =
@@ -182,14 +204,18 @@ returns-in-ListSeries-clause-ends g c =
     let end = c.list_series-end.result.0 in
     let e = c.list_series-end.ensures in
     let faults = faults_of (reads old) (reads new) (sends old) (sends new) in
-    let P : Command → Type 0 = λ command. CommandEnds command (view old) (view new) (left old) (left new) (sent old) (sent new) faults (code_of end) (place_of end) in
-    let S : Status → Type 0 = λ s. CommandEnds c.args.command (view old) (view new) (left old) (left new) (sent old) (sent new) faults s.code s.place in
+    let P : Command → Type 0 = λ command. CommandEnds command (view old) (view new) (left old) (left new) (sent old) (sent new) faults
+    (code_of end) (place_of end) in
+    let S : Status → Type 0 = λ s. CommandEnds c.args.command (view old) (view new) (left old) (left new) (sent old)
+    (sent new) faults s.code s.place in
     subst S (sym c.status_of-in-ListSeries.ensures.status)
-    (subst P (sym c.in-ListSeries.is) (list_ends (view old) (view new) (left old) (left new) (sent old) (sent new) faults end e.ends e.away e.untaken))
+    (subst P (sym c.in-ListSeries.is) (list_ends (view old) (view new) (left old) (left new) (sent old)
+    (sent new) faults end e.ends e.away e.untaken))
 
 pub returns-in-ListSeries-clause-faults : goal.returns-in-ListSeries-clause-faults
 returns-in-ListSeries-clause-faults g c =
-    counts_end c.list_series-end.result.0 c.status_of-in-ListSeries.result (g.W.Disk.view c.args.world) (g.W.Disk.view c.list_series-end.result.1) c.status_of-in-ListSeries.ensures.status c.list_series-end.ensures.faults
+    counts_end c.list_series-end.result.0 c.status_of-in-ListSeries.result (g.W.Disk.view c.args.world)
+    (g.W.Disk.view c.list_series-end.result.1) c.status_of-in-ListSeries.ensures.status c.list_series-end.ensures.faults
 
 pub returns-in-Export-clause-ends : goal.returns-in-Export-clause-ends
 returns-in-Export-clause-ends g c =
@@ -203,14 +229,18 @@ returns-in-Export-clause-ends g c =
     let end = c.export_values-end.result.0 in
     let e = c.export_values-end.ensures in
     let faults = faults_of (reads old) (reads new) (sends old) (sends new) in
-    let P : Command → Type 0 = λ command. CommandEnds command (view old) (view new) (left old) (left new) (sent old) (sent new) faults (code_of end) (place_of end) in
-    let S : Status → Type 0 = λ s. CommandEnds c.args.command (view old) (view new) (left old) (left new) (sent old) (sent new) faults s.code s.place in
+    let P : Command → Type 0 = λ command. CommandEnds command (view old) (view new) (left old) (left new) (sent old) (sent new) faults
+    (code_of end) (place_of end) in
+    let S : Status → Type 0 = λ s. CommandEnds c.args.command (view old) (view new) (left old) (left new) (sent old)
+    (sent new) faults s.code s.place in
     subst S (sym c.status_of-in-Export.ensures.status)
-    (subst P (sym c.in-Export.is) (export_ends (view old) (view new) (left old) (left new) (sent old) (sent new) faults c.in-Export.name c.in-Export.window end e.ends e.away e.untaken))
+    (subst P (sym c.in-Export.is) (export_ends (view old) (view new) (left old) (left new) (sent old)
+    (sent new) faults c.in-Export.name c.in-Export.window end e.ends e.away e.untaken))
 
 pub returns-in-Export-clause-faults : goal.returns-in-Export-clause-faults
 returns-in-Export-clause-faults g c =
-    counts_end c.export_values-end.result.0 c.status_of-in-Export.result (g.W.Disk.view c.args.world) (g.W.Disk.view c.export_values-end.result.1) c.status_of-in-Export.ensures.status c.export_values-end.ensures.faults
+    counts_end c.export_values-end.result.0 c.status_of-in-Export.result (g.W.Disk.view c.args.world)
+    (g.W.Disk.view c.export_values-end.result.1) c.status_of-in-Export.ensures.status c.export_values-end.ensures.faults
 
 pub returns-in-Retain-clause-ends : goal.returns-in-Retain-clause-ends
 returns-in-Retain-clause-ends g c =
@@ -224,14 +254,17 @@ returns-in-Retain-clause-ends g c =
     let end = c.retain-end.result.0 in
     let e = c.retain-end.ensures in
     let faults = faults_of (reads old) (reads new) (sends old) (sends new) in
-    let P : Command → Type 0 = λ command. CommandEnds command (view old) (view new) (left old) (left new) (sent old) (sent new) faults (code_of end) (place_of end) in
-    let S : Status → Type 0 = λ s. CommandEnds c.args.command (view old) (view new) (left old) (left new) (sent old) (sent new) faults s.code s.place in
+    let P : Command → Type 0 = λ command. CommandEnds command (view old) (view new) (left old) (left new) (sent old) (sent new) faults
+    (code_of end) (place_of end) in
+    let S : Status → Type 0 = λ s. CommandEnds c.args.command (view old) (view new) (left old) (left new) (sent old)
+    (sent new) faults s.code s.place in
     subst S (sym c.status_of-in-Retain.ensures.status)
     (subst P (sym c.in-Retain.is) (retain_ends (view old) (view new) (left old) (left new) (sent old) (sent new) faults end e.ends e.away))
 
 pub returns-in-Retain-clause-faults : goal.returns-in-Retain-clause-faults
 returns-in-Retain-clause-faults g c =
-    counts_end c.retain-end.result.0 c.status_of-in-Retain.result (g.W.Disk.view c.args.world) (g.W.Disk.view c.retain-end.result.1) c.status_of-in-Retain.ensures.status c.retain-end.ensures.faults
+    counts_end c.retain-end.result.0 c.status_of-in-Retain.result (g.W.Disk.view c.args.world)
+    (g.W.Disk.view c.retain-end.result.1) c.status_of-in-Retain.ensures.status c.retain-end.ensures.faults
 
 pub returns-in-Cover-clause-ends : goal.returns-in-Cover-clause-ends
 returns-in-Cover-clause-ends g c =
@@ -244,7 +277,8 @@ returns-in-Cover-clause-ends g c =
     let new = c.cover_status-status.new.world in
     let status = c.cover_status-status.result in
     let faults = faults_of (reads old) (reads new) (sends old) (sends new) in
-    let P : Command → Type 0 = λ command. CommandEnds command (view old) (view new) (left old) (left new) (sent old) (sent new) faults status.code status.place in
+    let P : Command → Type 0 = λ command. CommandEnds command (view old) (view new) (left old) (left new) (sent old)
+    (sent new) faults status.code status.place in
     subst P (sym c.in-Cover.is) c.cover_status-status.ensures.ends
 
 pub returns-in-Live-clause-ends : goal.returns-in-Live-clause-ends
@@ -259,10 +293,13 @@ returns-in-Live-clause-ends g c =
     let end = c.live-end.result.0 in
     let e = c.live-end.ensures in
     let faults = faults_of (reads old) (reads new) (sends old) (sends new) in
-    let P : Command → Type 0 = λ command. CommandEnds command (view old) (view new) (left old) (left new) (sent old) (sent new) faults (code_of end) (place_of end) in
-    let S : Status → Type 0 = λ s. CommandEnds c.args.command (view old) (view new) (left old) (left new) (sent old) (sent new) faults s.code s.place in
+    let P : Command → Type 0 = λ command. CommandEnds command (view old) (view new) (left old) (left new) (sent old) (sent new) faults
+    (code_of end) (place_of end) in
+    let S : Status → Type 0 = λ s. CommandEnds c.args.command (view old) (view new) (left old) (left new) (sent old)
+    (sent new) faults s.code s.place in
     subst S (sym c.status_of-in-Live.ensures.status)
-    (subst P (sym c.in-Live.is) (live_ends (view old) (view new) (left old) (left new) (sent old) (sent new) faults end e.ends e.away e.reads e.syncs))
+    (subst P (sym c.in-Live.is) (live_ends (view old) (view new) (left old) (left new) (sent old)
+    (sent new) faults end e.ends e.away e.reads e.syncs))
 
 pub returns-in-Host-clause-ends : goal.returns-in-Host-clause-ends
 returns-in-Host-clause-ends g c =
@@ -276,14 +313,18 @@ returns-in-Host-clause-ends g c =
     let end = c.host-end.result.0 in
     let e = c.host-end.ensures in
     let faults = faults_of (reads old) (reads new) (sends old) (sends new) in
-    let P : Command → Type 0 = λ command. CommandEnds command (view old) (view new) (left old) (left new) (sent old) (sent new) faults (code_of (hosting_end end)) (place_of (hosting_end end)) in
-    let S : Status → Type 0 = λ s. CommandEnds c.args.command (view old) (view new) (left old) (left new) (sent old) (sent new) faults s.code s.place in
+    let P : Command → Type 0 = λ command. CommandEnds command (view old) (view new) (left old) (left new) (sent old) (sent new) faults
+    (code_of (hosting_end end)) (place_of (hosting_end end)) in
+    let S : Status → Type 0 = λ s. CommandEnds c.args.command (view old) (view new) (left old) (left new) (sent old)
+    (sent new) faults s.code s.place in
     subst S (sym (c.status_of-in-Host.ensures.status ∙ ap (λ (e : End). status_of e) c.hosting_end.ensures))
-    (subst P (sym c.in-Host.is) (host_ends (view old) (view new) (left old) (left new) (sent old) (sent new) faults end e.ends e.away e.costs))
+    (subst P (sym c.in-Host.is) (host_ends (view old) (view new) (left old) (left new) (sent old)
+    (sent new) faults end e.ends e.away e.costs))
 
 pub returns-in-Live-clause-faults : goal.returns-in-Live-clause-faults
 returns-in-Live-clause-faults g c =
-    counts_end c.live-end.result.0 c.status_of-in-Live.result (g.W.Disk.view c.args.world) (g.W.Disk.view c.live-end.result.1) c.status_of-in-Live.ensures.status c.live-end.ensures.faults
+    counts_end c.live-end.result.0 c.status_of-in-Live.result (g.W.Disk.view c.args.world)
+    (g.W.Disk.view c.live-end.result.1) c.status_of-in-Live.ensures.status c.live-end.ensures.faults
 
 pub returns-in-Host-clause-faults : goal.returns-in-Host-clause-faults
 returns-in-Host-clause-faults g c =
@@ -291,7 +332,8 @@ returns-in-Host-clause-faults g c =
     let new = g.W.Disk.view c.host-end.result.1 in
     let F : Option Fault → Type 0 = λ fault. CountsFault fault old new in
     let same = ap (λ (e : End). end_fault e) c.hosting_end.ensures ∙ hosted_fault c.host-end.result.0 in
-    counts_end c.hosting_end.result c.status_of-in-Host.result old new c.status_of-in-Host.ensures.status (subst F (sym same) c.host-end.ensures.faults)
+    counts_end c.hosting_end.result c.status_of-in-Host.result old new c.status_of-in-Host.ensures.status
+    (subst F (sym same) c.host-end.ensures.faults)
 
 pub returns-in-Derive-clause-ends : goal.returns-in-Derive-clause-ends
 returns-in-Derive-clause-ends g c =
@@ -305,14 +347,17 @@ returns-in-Derive-clause-ends g c =
     let end = c.derive-end.result.0 in
     let e = c.derive-end.ensures in
     let faults = faults_of (reads old) (reads new) (sends old) (sends new) in
-    let P : Command → Type 0 = λ command. CommandEnds command (view old) (view new) (left old) (left new) (sent old) (sent new) faults (code_of end) (place_of end) in
-    let S : Status → Type 0 = λ s. CommandEnds c.args.command (view old) (view new) (left old) (left new) (sent old) (sent new) faults s.code s.place in
+    let P : Command → Type 0 = λ command. CommandEnds command (view old) (view new) (left old) (left new) (sent old) (sent new) faults
+    (code_of end) (place_of end) in
+    let S : Status → Type 0 = λ s. CommandEnds c.args.command (view old) (view new) (left old) (left new) (sent old)
+    (sent new) faults s.code s.place in
     subst S (sym c.status_of-in-Derive.ensures.status)
     (subst P (sym c.in-Derive.is) (derive_ends (view old) (view new) (left old) (left new) (sent old) (sent new) faults end e.ends e.away))
 
 pub returns-in-Derive-clause-faults : goal.returns-in-Derive-clause-faults
 returns-in-Derive-clause-faults g c =
-    counts_end c.derive-end.result.0 c.status_of-in-Derive.result (g.W.Disk.view c.args.world) (g.W.Disk.view c.derive-end.result.1) c.status_of-in-Derive.ensures.status c.derive-end.ensures.faults
+    counts_end c.derive-end.result.0 c.status_of-in-Derive.result (g.W.Disk.view c.args.world)
+    (g.W.Disk.view c.derive-end.result.1) c.status_of-in-Derive.ensures.status c.derive-end.ensures.faults
 
 -- ---- the pages
 
@@ -340,7 +385,12 @@ returns-in-Demo-clause-does g c =
     let P : Command → Type 0 = λ command. Does command at c.status_of-in-Demo.result in
     let end = c.run_demo-end.result.0 in
     let e = c.run_demo-end.ensures in
-    subst P (sym c.in-Demo.is) (end, c.status_of-in-Demo.ensures.status, of_demo at (g.W.Streams.send_faults c.args.world) (g.W.Streams.send_faults c.run_demo-end.result.1) c.in-Demo.seed c.in-Demo.count end e.ends e.away e.untaken)
+    subst P (sym c.in-Demo.is) (
+      end,
+      c.status_of-in-Demo.ensures.status,
+      of_demo at (g.W.Streams.send_faults c.args.world)
+          (g.W.Streams.send_faults c.run_demo-end.result.1) c.in-Demo.seed c.in-Demo.count end e.ends e.away e.untaken,
+    )
 
 pub returns-in-Check-clause-does : goal.returns-in-Check-clause-does
 returns-in-Check-clause-does g c =
@@ -348,7 +398,11 @@ returns-in-Check-clause-does g c =
     let P : Command → Type 0 = λ command. Does command at c.status_of-in-Check.result in
     let end = c.check_store-end.result.0 in
     let e = c.check_store-end.ensures in
-    subst P (sym c.in-Check.is) (end, c.status_of-in-Check.ensures.status, of_check at (g.W.Streams.send_faults c.args.world) (g.W.Streams.send_faults c.check_store-end.result.1) end e.ends e.away e.untaken)
+    subst P (sym c.in-Check.is) (
+      end,
+      c.status_of-in-Check.ensures.status,
+      of_check at (g.W.Streams.send_faults c.args.world) (g.W.Streams.send_faults c.check_store-end.result.1) end e.ends e.away e.untaken,
+    )
 
 pub returns-in-ListSeries-clause-does : goal.returns-in-ListSeries-clause-does
 returns-in-ListSeries-clause-does g c =
@@ -356,7 +410,11 @@ returns-in-ListSeries-clause-does g c =
     let P : Command → Type 0 = λ command. Does command at c.status_of-in-ListSeries.result in
     let end = c.list_series-end.result.0 in
     let e = c.list_series-end.ensures in
-    subst P (sym c.in-ListSeries.is) (end, c.status_of-in-ListSeries.ensures.status, of_list at (g.W.Streams.send_faults c.args.world) (g.W.Streams.send_faults c.list_series-end.result.1) end e.ends e.away e.untaken)
+    subst P (sym c.in-ListSeries.is) (
+      end,
+      c.status_of-in-ListSeries.ensures.status,
+      of_list at (g.W.Streams.send_faults c.args.world) (g.W.Streams.send_faults c.list_series-end.result.1) end e.ends e.away e.untaken,
+    )
 
 pub returns-in-Export-clause-does : goal.returns-in-Export-clause-does
 returns-in-Export-clause-does g c =
@@ -364,7 +422,12 @@ returns-in-Export-clause-does g c =
     let P : Command → Type 0 = λ command. Does command at c.status_of-in-Export.result in
     let end = c.export_values-end.result.0 in
     let e = c.export_values-end.ensures in
-    subst P (sym c.in-Export.is) (end, c.status_of-in-Export.ensures.status, of_export at (g.W.Streams.send_faults c.args.world) (g.W.Streams.send_faults c.export_values-end.result.1) c.in-Export.name c.in-Export.window end e.ends e.away e.untaken)
+    subst P (sym c.in-Export.is) (
+      end,
+      c.status_of-in-Export.ensures.status,
+      of_export at (g.W.Streams.send_faults c.args.world)
+          (g.W.Streams.send_faults c.export_values-end.result.1) c.in-Export.name c.in-Export.window end e.ends e.away e.untaken,
+    )
 
 pub returns-in-Init-clause-does : goal.returns-in-Init-clause-does
 returns-in-Init-clause-does g c =
@@ -419,7 +482,8 @@ returns-in-Live-clause-does g c =
     let P : Command → Type 0 = λ command. Does command (course view s.left s.sent old new) c.status_of-in-Live.result in
     let end = c.live-end.result.0 in
     let e = c.live-end.ensures in
-    let did = of_live (view old) (view new) (traffic s.left s.sent s.read_faults s.send_faults old new) end e.ends e.away e.reads e.syncs e.answers e.blames in
+    let did = of_live (view old) (view new) (traffic s.left s.sent s.read_faults s.send_faults old new) end e.ends e.away e.reads e.syncs
+    e.answers e.blames in
     subst P (sym c.in-Live.is) (end, c.status_of-in-Live.ensures.status, did)
 
 pub returns-in-Host-clause-does : goal.returns-in-Host-clause-does
@@ -431,8 +495,13 @@ returns-in-Host-clause-does g c =
     let P : Command → Type 0 = λ command. Does command (course view s.left s.sent old new) c.status_of-in-Host.result in
     let end = c.host-end.result.0 in
     let e = c.host-end.ensures in
-    let did = of_host (view old) (view new) (traffic s.left s.sent s.read_faults s.send_faults old new) end e.ends e.away e.costs e.answers e.blames in
-    subst P (sym c.in-Host.is) (hosting_end end, c.status_of-in-Host.ensures.status ∙ ap (λ (e : End). status_of e) c.hosting_end.ensures, did)
+    let did = of_host (view old) (view new) (traffic s.left s.sent s.read_faults s.send_faults old new) end e.ends e.away e.costs e.answers
+    e.blames in
+    subst P (sym c.in-Host.is) (
+      hosting_end end,
+      c.status_of-in-Host.ensures.status ∙ ap (λ (e : End). status_of e) c.hosting_end.ensures,
+      did,
+    )
 
 pub returns-in-Derive-clause-does : goal.returns-in-Derive-clause-does
 returns-in-Derive-clause-does g c =

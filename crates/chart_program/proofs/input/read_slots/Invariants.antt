@@ -17,7 +17,8 @@ invariant-lines g l = record {
   stands_in : StandsIn (g.S.Streams.left l.initial.from) l.lines (g.S.Streams.left l.from);
   values : All IsSlot l.slots.items;
   few : vec_len l.slots ≤ most_slots;
-  progress : IfSome (g.S.Streams.left l.initial.from) (λ input. Progress input (unread l.lines (g.S.Streams.left l.from)) l.lines.given l.slots.items);
+  progress : IfSome (g.S.Streams.left l.initial.from)
+      (λ input. Progress input (unread l.lines (g.S.Streams.left l.from)) l.lines.given l.slots.items);
   sent : g.S.Streams.sent l.from ≡ g.S.Streams.sent l.initial.from;
   send_faults : g.S.Streams.send_faults l.from ≡ g.S.Streams.send_faults l.initial.from;
   read_faults : g.S.Streams.read_faults l.from ≡ g.S.Streams.read_faults l.initial.from;

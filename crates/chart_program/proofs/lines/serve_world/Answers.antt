@@ -30,8 +30,11 @@ returns-in-Ok-clause-serves g c =
     let new = c.serve_lines-answer.result.1 in
     let beside = c.in-Ok.ensures.opens.beside_is in
     let w = g.met.W.World in
-    serves_opened Spelled ⊥ (stored.pages c.in-Ok.store).count (view old) (view mid) (view new) (left mid) (left old) (left new) (sent mid) (sent old) (sent new)
-    (faults_of (reads mid) (reads new) (sends mid) (sends new)) (faults_of (reads old) (reads new) (sends old) (sends new)) c.serve_lines-answer.result.0 c.of_answering.result (λ start. refl) c.in-Ok.ensures.opens c.in-Ok.ensures.quiet c.in-Ok.ensures.count
+    serves_opened Spelled ⊥ (stored.pages c.in-Ok.store).count (view old) (view mid) (view new) (left mid) (left old) (left new) (sent mid)
+    (sent old) (sent new)
+    (faults_of (reads mid) (reads new) (sends mid) (sends new))
+    (faults_of (reads old) (reads new) (sends old) (sends new)) c.serve_lines-answer.result.0 c.of_answering.result
+    (λ start. refl) c.in-Ok.ensures.opens c.in-Ok.ensures.quiet c.in-Ok.ensures.count
     (sym (w.beside_left mid) ∙ ap (λ (b : Beside). b.left) beside ∙ w.beside_left old)
     (sym (w.beside_sent mid) ∙ ap (λ (b : Beside). b.sent) beside ∙ w.beside_sent old)
     (same_faults (reads mid) (reads old) (reads new) (sends mid) (sends old) (sends new)
@@ -50,14 +53,17 @@ returns-in-Err-clause-serves g c =
     let new = c.in-Err.field-0.value in
     let beside = c.in-Err.ensures.opens.beside_is in
     let w = g.met.W.World in
-    serves_not Spelled ⊥ (view old) (view new) (left old) (left new) (sent old) (sent new) (faults_of (reads old) (reads new) (sends old) (sends new)) c.in-Err.field-0.cause (λ start. refl) c.in-Err.ensures.opens c.in-Err.ensures.cause c.in-Err.ensures.a_store
+    serves_not Spelled ⊥ (view old) (view new) (left old) (left new) (sent old) (sent new)
+    (faults_of (reads old) (reads new) (sends old) (sends new)) c.in-Err.field-0.cause
+    (λ start. refl) c.in-Err.ensures.opens c.in-Err.ensures.cause c.in-Err.ensures.a_store
     (sym (w.beside_sent new) ∙ ap (λ (b : Beside). b.sent) beside ∙ w.beside_sent old)
 
 pub returns-in-Ok-clause-first : goal.returns-in-Ok-clause-first
 returns-in-Ok-clause-first g c =
     let old = c.args.world in
     let new = c.serve_lines-answer.result.1 in
-    first_so (g.W.Disk.view old) (traffic g.W.Streams.left g.W.Streams.sent g.W.Streams.read_faults g.W.Streams.send_faults old new) c.serve_lines-answer.result.0 c.of_answering.result c.of_answering.ensures c.in-Ok.ensures.large
+    first_so (g.W.Disk.view old) (traffic g.W.Streams.left g.W.Streams.sent g.W.Streams.read_faults g.W.Streams.send_faults old new)
+    c.serve_lines-answer.result.0 c.of_answering.result c.of_answering.ensures c.in-Ok.ensures.large
 
 pub returns-in-Err-clause-first : goal.returns-in-Err-clause-first
 returns-in-Err-clause-first g c =
@@ -82,7 +88,8 @@ returns-in-Ok-clause-faults g c =
     let P : Result (Unit {0}) LinesEnd → Type 0 = λ r. CountsFault (code_fault (status_by r).code) old new in
     subst P (sym c.of_answering.ensures)
     (counts_told (fault_in run_fault answer) (code_fault (status_by (in_world answer)).code) old new (told_in_world answer)
-    (counts_then (fault_in run_fault answer) old mid new (counts_no_disk old mid e.opens.beside_is e.quiet) c.serve_lines-answer.ensures.faults))
+    (counts_then (fault_in run_fault answer) old mid new
+    (counts_no_disk old mid e.opens.beside_is e.quiet) c.serve_lines-answer.ensures.faults))
 
 pub returns-in-Err-clause-faults : goal.returns-in-Err-clause-faults
 returns-in-Err-clause-faults g c =
@@ -115,7 +122,8 @@ returns-in-Ok-clause-blames g c =
     let new = c.serve_lines-answer.result.1 in
     let beside = c.in-Ok.ensures.opens.beside_is in
     let w = g.met.W.World in
-    opened_blames AreSpellings (view old) (view new) (stored.pages c.in-Ok.store).count (left mid) (left old) (sent mid) (sent old) (sent new) c.serve_lines-answer.result.0 c.of_answering.result
+    opened_blames AreSpellings (view old) (view new) (stored.pages c.in-Ok.store).count (left mid) (left old) (sent mid) (sent old)
+    (sent new) c.serve_lines-answer.result.0 c.of_answering.result
     c.in-Ok.ensures.count
     (sym (w.beside_left mid) ∙ ap (λ (b : Beside). b.left) beside ∙ w.beside_left old)
     (sym (w.beside_sent mid) ∙ ap (λ (b : Beside). b.sent) beside ∙ w.beside_sent old)

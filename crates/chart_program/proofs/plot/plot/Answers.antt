@@ -38,18 +38,22 @@ returns-in_err-slots-clause-ends g c =
     let new = c.read_slots.new.from in
     let left = g.S.Streams.left in
     let sent = g.S.Streams.sent in
-    error_goes (λ end. IfSome (left old) (λ input. EndsPlot c.args.w c.args.h input (left new) (sent old) (sent new) end)) c.from_residual.result (Input c.in_err-slots.field-0.0) c.from_residual.ensures.1 c.in_err-slots.ensures.ends
+    error_goes (λ end. IfSome (left old) (λ input. EndsPlot c.args.w c.args.h input (left new) (sent old) (sent new) end))
+    c.from_residual.result (Input c.in_err-slots.field-0.0) c.from_residual.ensures.1 c.in_err-slots.ensures.ends
 
 pub returns-in_err-slots-clause-unsent : goal.returns-in_err-slots-clause-unsent
 returns-in_err-slots-clause-unsent g c =
     let sent = g.S.Streams.sent in
-    error_goes (λ end. end ≢ SendFault → sent c.read_slots.new.from ≡ sent c.args.streams.now) c.from_residual.result (Input c.in_err-slots.field-0.0) c.from_residual.ensures.1 (λ other. c.read_slots.ensures.sent)
+    error_goes (λ end. end ≢ SendFault → sent c.read_slots.new.from ≡ sent c.args.streams.now) c.from_residual.result
+    (Input c.in_err-slots.field-0.0) c.from_residual.ensures.1 (λ other. c.read_slots.ensures.sent)
 
 pub returns-in_err-slots-clause-read : goal.returns-in_err-slots-clause-read
-returns-in_err-slots-clause-read g c = λ fault. c.in_err-slots.ensures.read (ap Err (input_is (sym (error_is c.from_residual.result (Input c.in_err-slots.field-0.0) c.from_residual.ensures.1) ∙ fault)))
+returns-in_err-slots-clause-read g c = λ fault. c.in_err-slots.ensures.read
+    (ap Err (input_is (sym (error_is c.from_residual.result (Input c.in_err-slots.field-0.0) c.from_residual.ensures.1) ∙ fault)))
 
 pub returns-in_err-slots-clause-send : goal.returns-in_err-slots-clause-send
-returns-in_err-slots-clause-send g c = λ fault. input_sent (sym (error_is c.from_residual.result (Input c.in_err-slots.field-0.0) c.from_residual.ensures.1) ∙ fault)
+returns-in_err-slots-clause-send g c = λ fault. input_sent
+    (sym (error_is c.from_residual.result (Input c.in_err-slots.field-0.0) c.from_residual.ensures.1) ∙ fault)
 
 pub returns-in_err-bytes-clause-done : goal.returns-in_err-bytes-clause-done
 returns-in_err-bytes-clause-done g c = on_err c.from_residual-in_err-bytes.result _ _ c.from_residual-in_err-bytes.ensures.1
@@ -63,10 +67,12 @@ returns-in_err-bytes-clause-whole g c = on_err c.from_residual-in_err-bytes.resu
 pub returns-in_err-bytes-clause-unsent : goal.returns-in_err-bytes-clause-unsent
 returns-in_err-bytes-clause-unsent g c =
     let sent = g.S.Streams.sent in
-    error_goes (λ end. end ≢ SendFault → sent c.read_slots.new.from ≡ sent c.args.streams.now) c.from_residual-in_err-bytes.result (Input c.in_err-bytes.field-0.0) c.from_residual-in_err-bytes.ensures.1 (λ other. c.read_slots.ensures.sent)
+    error_goes (λ end. end ≢ SendFault → sent c.read_slots.new.from ≡ sent c.args.streams.now) c.from_residual-in_err-bytes.result
+    (Input c.in_err-bytes.field-0.0) c.from_residual-in_err-bytes.ensures.1 (λ other. c.read_slots.ensures.sent)
 
 pub returns-in_err-bytes-clause-send : goal.returns-in_err-bytes-clause-send
-returns-in_err-bytes-clause-send g c = λ fault. input_sent (sym (error_is c.from_residual-in_err-bytes.result (Input c.in_err-bytes.field-0.0) c.from_residual-in_err-bytes.ensures.1) ∙ fault)
+returns-in_err-bytes-clause-send g c = λ fault. input_sent
+    (sym (error_is c.from_residual-in_err-bytes.result (Input c.in_err-bytes.field-0.0) c.from_residual-in_err-bytes.ensures.1) ∙ fault)
 
 pub returns-then-is_err-clause-done : goal.returns-then-is_err-clause-done
 returns-then-is_err-clause-done g c = tt
@@ -142,7 +148,8 @@ returns-in_err-slots-clause-faults g c =
     let end = c.in_err-slots.field-0.0 in
     let P : Result (Unit {0}) PlotEnd → Type 0 = λ r. CountsFault (fault_in plot_fault r) (view old) (view mid) in
     subst P (sym (error_is c.from_residual.result (Input end) c.from_residual.ensures.1))
-    (counts_slots view g.S.Streams.read_faults g.S.Streams.send_faults w.beside_read_faults w.beside_send_faults old mid (w.take_keeps old mid e.beside) end (λ is. e.read (ap Err is)) (λ other. e.quiet_reads (λ is. other (cc))) e.send_faults)
+    (counts_slots view g.S.Streams.read_faults g.S.Streams.send_faults w.beside_read_faults w.beside_send_faults old mid
+    (w.take_keeps old mid e.beside) end (λ is. e.read (ap Err is)) (λ other. e.quiet_reads (λ is. other (cc))) e.send_faults)
 
 pub returns-in_err-bytes-clause-faults : goal.returns-in_err-bytes-clause-faults
 returns-in_err-bytes-clause-faults g c =
@@ -152,10 +159,12 @@ returns-in_err-bytes-clause-faults g c =
     let mid = c.read_slots.new.from in
     let e = c.read_slots.ensures in
     let end = c.in_err-bytes.field-0.0 in
-    let kept = counts_kept view g.S.Streams.read_faults g.S.Streams.send_faults w.beside_read_faults w.beside_send_faults old mid (w.take_keeps old mid e.beside) (c.in_ok-slots.ensures.quiet_reads (ok_err _ _)) e.send_faults in
+    let kept = counts_kept view g.S.Streams.read_faults g.S.Streams.send_faults w.beside_read_faults w.beside_send_faults old mid
+    (w.take_keeps old mid e.beside) (c.in_ok-slots.ensures.quiet_reads (ok_err _ _)) e.send_faults in
     let I : InputEnd → Type 0 = λ x. CountsFault (plot_fault (Input x)) (view old) (view mid) in
     let P : Result (Unit {0}) PlotEnd → Type 0 = λ r. CountsFault (fault_in plot_fault r) (view old) (view mid) in
-    subst P (sym (error_is c.from_residual-in_err-bytes.result (Input end) c.from_residual-in_err-bytes.ensures.1)) (subst I (sym c.in_err-bytes.ensures.memory) kept)
+    subst P (sym (error_is c.from_residual-in_err-bytes.result (Input end) c.from_residual-in_err-bytes.ensures.1))
+    (subst I (sym c.in_err-bytes.ensures.memory) kept)
 
 pub returns-then-is_err-clause-faults : goal.returns-then-is_err-clause-faults
 returns-then-is_err-clause-faults g c =
@@ -167,10 +176,13 @@ returns-then-is_err-clause-faults g c =
     let e = c.read_slots.ensures in
     let reads = g.S.Streams.read_faults in
     let sends = g.S.Streams.send_faults in
-    let kept = counts_kept view reads sends w.beside_read_faults w.beside_send_faults old mid (w.take_keeps old mid e.beside) (c.in_ok-slots.ensures.quiet_reads (ok_err _ _)) e.send_faults in
+    let kept = counts_kept view reads sends w.beside_read_faults w.beside_send_faults old mid (w.take_keeps old mid e.beside)
+    (c.in_ok-slots.ensures.quiet_reads (ok_err _ _)) e.send_faults in
     let failed : is_err c.send.result ≡ true = search rules in
     counts_then (Some OfSend) (view old) (view mid) (view new) kept
-    (counts_unsent view reads sends w.beside_read_faults w.beside_send_faults mid new (w.send_keeps _ mid new c.send.ensures.beside) c.send.ensures.read_faults (of_err c.send.result (HasRisen (sends mid) (sends new)) failed c.send.ensures.cause))
+    (counts_unsent view reads sends w.beside_read_faults w.beside_send_faults mid new
+    (w.send_keeps _ mid new c.send.ensures.beside) c.send.ensures.read_faults
+    (of_err c.send.result (HasRisen (sends mid) (sends new)) failed c.send.ensures.cause))
 
 pub returns-clause-faults : goal.returns-clause-faults
 returns-clause-faults g c =
@@ -182,7 +194,10 @@ returns-clause-faults g c =
     let e = c.read_slots.ensures in
     let reads = g.S.Streams.read_faults in
     let sends = g.S.Streams.send_faults in
-    let kept = counts_kept view reads sends w.beside_read_faults w.beside_send_faults old mid (w.take_keeps old mid e.beside) (c.in_ok-slots.ensures.quiet_reads (ok_err _ _)) e.send_faults in
+    let kept = counts_kept view reads sends w.beside_read_faults w.beside_send_faults old mid (w.take_keeps old mid e.beside)
+    (c.in_ok-slots.ensures.quiet_reads (ok_err _ _)) e.send_faults in
     let done : is_err c.send.result ≡ false = search rules in
     counts_then None (view old) (view mid) (view new) kept
-    (counts_kept view reads sends w.beside_read_faults w.beside_send_faults mid new (w.send_keeps _ mid new c.send.ensures.beside) c.send.ensures.read_faults (of_ok c.send.result (sends new ≡ sends mid) done c.send.ensures.quiet))
+    (counts_kept view reads sends w.beside_read_faults w.beside_send_faults mid new
+    (w.send_keeps _ mid new c.send.ensures.beside) c.send.ensures.read_faults
+    (of_ok c.send.result (sends new ≡ sends mid) done c.send.ensures.quiet))

@@ -13,7 +13,8 @@ use Rattle.chart_program.specs.declared.run_end.RunEnd.{RunEnd}
 use Rattle.chart_program.proofs.Faults.{told_run}
 use Rattle.chart_program.specs.Known.{EndsKnown, ShowsBy}
 use Rattle.chart_program.specs.Runs.{AreShown, RunEndsBy, EndsAtBad, IsShown, run_answer}
-use Rattle.chart_program.proofs.Running.{done_shown, ends_shown, lasts_shown, run_fault, run_bad, run_shown, run_known, run_ok, follows, all_follow, all_known}
+use Rattle.chart_program.proofs.Running.{done_shown, ends_shown, lasts_shown, run_fault, run_bad, run_shown, run_known, run_ok, follows}
+use Rattle.chart_program.proofs.Running.{all_follow, all_known}
 use Rattle.chart_program.proofs.ShownFrames.{named_shown}
 use Rattle.chart_program.proofs.LineAnswers.{each_shown}
 use Rattle.chart_program.specs.LineAnswers.{ShowsEach}
@@ -31,7 +32,9 @@ returns-clause-done g c = λ total book told stands.
     let answer = c.answer_lines-answer.result in
     let X = SendsAll g.P.Streams.left g.P.Streams.sent (AreShown gives c.args.show.now c.answer_lines-answer.new.kept) total book old new in
     subst (λ r. OnOk r X) (sym c.of_answers.ensures) (run_ok answer X
-    (ok_so answer _ X (done_shown gives c.args.show.now c.answer_lines-answer.new.kept (g.P.Streams.left pages) total (shown.state old total book) (shown.image new) new.sessions (g.P.Streams.sent pages) (g.P.Streams.sent after)) (c.answer_lines-answer.ensures.done total book told stands)))
+    (ok_so answer _ X (done_shown gives c.args.show.now c.answer_lines-answer.new.kept (g.P.Streams.left pages) total
+    (shown.state old total book) (shown.image new) new.sessions (g.P.Streams.sent pages) (g.P.Streams.sent after))
+    (c.answer_lines-answer.ensures.done total book told stands)))
 
 pub returns-clause-within : goal.returns-clause-within
 returns-clause-within g c =
@@ -46,8 +49,10 @@ returns-clause-whole g c =
 
 pub returns-clause-long : goal.returns-clause-long
 returns-clause-long g c = λ fault.
-    let unmade = c.answer_lines-answer.ensures.known _ (all_follow g.V.Show.gives) (all_known c.args.show.now c.args.service.now.sessions) in
-    c.answer_lines-answer.ensures.long (run_fault g.V.Show.gives c.answer_lines-answer.result InputTooLong (λ e. cc) unmade (sym c.of_answers.ensures ∙ fault))
+    let unmade = c.answer_lines-answer.ensures.known _ (all_follow g.V.Show.gives)
+    (all_known c.args.show.now c.args.service.now.sessions) in
+    c.answer_lines-answer.ensures.long (run_fault g.V.Show.gives c.answer_lines-answer.result InputTooLong (λ e. cc) unmade
+    (sym c.of_answers.ensures ∙ fault))
 
 pub returns-clause-ends : goal.returns-clause-ends
 returns-clause-ends g c = λ total book told stands.
@@ -57,47 +62,61 @@ returns-clause-ends g c = λ total book told stands.
     let after = shown.pages new in
     let gives = g.V.Show.gives in
     let unmade = c.answer_lines-answer.ensures.known _ (all_follow gives) (all_known c.args.show.now old.sessions) in
-    subst (λ r. IfErr r (RunEndsBy g.P.Streams.left g.P.Streams.sent gives c.args.show.now c.answer_lines-answer.new.kept total book old new)) (sym c.of_answers.ensures)
-    (ends_shown gives c.args.show.now c.answer_lines-answer.new.kept (shown.state old total book) (shown.image new) new.sessions (g.P.Streams.left after) (g.P.Streams.sent pages) (g.P.Streams.sent after) (g.P.Streams.left pages) c.answer_lines-answer.result unmade (c.answer_lines-answer.ensures.ends total book told stands))
+    subst (λ r. IfErr r (RunEndsBy g.P.Streams.left g.P.Streams.sent gives c.args.show.now c.answer_lines-answer.new.kept total book old
+    new)) (sym c.of_answers.ensures)
+    (ends_shown gives c.args.show.now c.answer_lines-answer.new.kept (shown.state old total book) (shown.image new) new.sessions
+    (g.P.Streams.left after) (g.P.Streams.sent pages) (g.P.Streams.sent after)
+    (g.P.Streams.left pages) c.answer_lines-answer.result unmade (c.answer_lines-answer.ensures.ends total book told stands))
 
 pub returns-clause-crash : goal.returns-clause-crash
 returns-clause-crash g c = λ total book told stands.
     let old = c.args.service.now in
     let new = c.answer_lines-answer.new.service in
     let pages = shown.pages old in
-    lasts_shown g.V.Show.gives c.args.show.now (g.P.Streams.left pages) (g.P.Streams.sent pages) total (sent_now (shown.view old)) (shown.state old total book) (shown.view old) (shown.view new) (c.answer_lines-answer.ensures.crash total book told stands)
+    lasts_shown g.V.Show.gives c.args.show.now (g.P.Streams.left pages) (g.P.Streams.sent pages) total (sent_now (shown.view old))
+    (shown.state old total book) (shown.view old) (shown.view new) (c.answer_lines-answer.ensures.crash total book told stands)
 
 pub returns-clause-read : goal.returns-clause-read
 returns-clause-read g c = λ fault.
-    let unmade = c.answer_lines-answer.ensures.known _ (all_follow g.V.Show.gives) (all_known c.args.show.now c.args.service.now.sessions) in
-    c.answer_lines-answer.ensures.read (run_fault g.V.Show.gives c.answer_lines-answer.result ReadFault (λ e. cc) unmade (sym c.of_answers.ensures ∙ fault))
+    let unmade = c.answer_lines-answer.ensures.known _ (all_follow g.V.Show.gives)
+    (all_known c.args.show.now c.args.service.now.sessions) in
+    c.answer_lines-answer.ensures.read (run_fault g.V.Show.gives c.answer_lines-answer.result ReadFault (λ e. cc) unmade
+    (sym c.of_answers.ensures ∙ fault))
 
 pub returns-clause-send : goal.returns-clause-send
 returns-clause-send g c = λ fault.
-    let unmade = c.answer_lines-answer.ensures.known _ (all_follow g.V.Show.gives) (all_known c.args.show.now c.args.service.now.sessions) in
-    c.answer_lines-answer.ensures.send (run_fault g.V.Show.gives c.answer_lines-answer.result SendFault (λ e. cc) unmade (sym c.of_answers.ensures ∙ fault))
+    let unmade = c.answer_lines-answer.ensures.known _ (all_follow g.V.Show.gives)
+    (all_known c.args.show.now c.args.service.now.sessions) in
+    c.answer_lines-answer.ensures.send (run_fault g.V.Show.gives c.answer_lines-answer.result SendFault (λ e. cc) unmade
+    (sym c.of_answers.ensures ∙ fault))
 
 pub returns-clause-disk : goal.returns-clause-disk
 returns-clause-disk g c = λ fault.
-    let unmade = c.answer_lines-answer.ensures.known _ (all_follow g.V.Show.gives) (all_known c.args.show.now c.args.service.now.sessions) in
-    c.answer_lines-answer.ensures.disk (run_fault g.V.Show.gives c.answer_lines-answer.result DiskFault (λ e. cc) unmade (sym c.of_answers.ensures ∙ fault))
+    let unmade = c.answer_lines-answer.ensures.known _ (all_follow g.V.Show.gives)
+    (all_known c.args.show.now c.args.service.now.sessions) in
+    c.answer_lines-answer.ensures.disk (run_fault g.V.Show.gives c.answer_lines-answer.result DiskFault (λ e. cc) unmade
+    (sym c.of_answers.ensures ∙ fault))
 
 pub returns-clause-shown : goal.returns-clause-shown
 returns-clause-shown g c =
-    let unmade = c.answer_lines-answer.ensures.known _ (all_follow g.V.Show.gives) (all_known c.args.show.now c.args.service.now.sessions) in
+    let unmade = c.answer_lines-answer.ensures.known _ (all_follow g.V.Show.gives)
+    (all_known c.args.show.now c.args.service.now.sessions) in
     subst (λ r. IfErr r (IsShown g.V.Show.gives)) (sym c.of_answers.ensures) (run_shown g.V.Show.gives c.answer_lines-answer.result unmade)
 
 pub returns-clause-known : goal.returns-clause-known
 returns-clause-known g c = λ knows is known.
     let gives = g.V.Show.gives in
-    subst (λ r. IfErr r (EndsKnown gives knows)) (sym c.of_answers.ensures) (run_known gives knows c.answer_lines-answer.result (c.answer_lines-answer.ensures.known knows (follows gives knows is) known))
+    subst (λ r. IfErr r (EndsKnown gives knows)) (sym c.of_answers.ensures)
+    (run_known gives knows c.answer_lines-answer.result (c.answer_lines-answer.ensures.known knows (follows gives knows is) known))
 
 pub returns-clause-bad : goal.returns-clause-bad
 returns-clause-bad g c =
     let it = c.answer_lines-answer.new.service in
-    let unmade = c.answer_lines-answer.ensures.known _ (all_follow g.V.Show.gives) (all_known c.args.show.now c.args.service.now.sessions) in
+    let unmade = c.answer_lines-answer.ensures.known _ (all_follow g.V.Show.gives)
+    (all_known c.args.show.now c.args.service.now.sessions) in
     subst (λ r. IfErr r (EndsAtBad (shown.IsTold it) (shown.view it).size (shown.image it))) (sym c.of_answers.ensures)
-    (run_bad g.V.Show.gives (shown.IsTold it) (shown.view it).size (shown.image it) c.answer_lines-answer.result unmade c.answer_lines-answer.ensures.bad)
+    (run_bad g.V.Show.gives (shown.IsTold it) (shown.view it).size
+    (shown.image it) c.answer_lines-answer.result unmade c.answer_lines-answer.ensures.bad)
 
 pub returns-clause-sound : goal.returns-clause-sound
 returns-clause-sound g c = λ other. c.answer_lines-answer.ensures.sound (λ is. other (c.of_answers.ensures ∙ ap run_answer is))
@@ -110,7 +129,8 @@ returns-clause-named g c =
     let before = g.P.Streams.sent (shown.pages old) in
     let now = g.P.Streams.sent (shown.pages new) in
     subst (λ r. ShowsBy gives c.args.show.now c.answer_lines-answer.new.kept old.sessions before now r) (sym c.of_answers.ensures)
-    (named_shown gives c.args.show.now c.answer_lines-answer.new.kept old.sessions before now c.answer_lines-answer.ensures.gives.lines new.sessions c.answer_lines-answer.result c.answer_lines-answer.ensures.gives.gives)
+    (named_shown gives c.args.show.now c.answer_lines-answer.new.kept old.sessions before now c.answer_lines-answer.ensures.gives.lines
+    new.sessions c.answer_lines-answer.result c.answer_lines-answer.ensures.gives.gives)
 
 pub returns-clause-faults : goal.returns-clause-faults
 returns-clause-faults g c =
@@ -121,7 +141,8 @@ returns-clause-faults g c =
     let unmade = c.answer_lines-answer.ensures.known _ (all_follow gives) (all_known c.args.show.now c.args.service.now.sessions) in
     let told = told_run answer (λ f other is. run_fault gives answer f other unmade is) in
     let P : Result (Unit {0}) RunEnd → Type 0 = λ r. CountsFault (fault_in faulting.run_fault r) old new in
-    subst P (sym c.of_answers.ensures) (counts_told (fault_in answer_fault answer) (fault_in faulting.run_fault (run_answer answer)) old new told c.answer_lines-answer.ensures.faults)
+    subst P (sym c.of_answers.ensures) (counts_told (fault_in answer_fault answer)
+    (fault_in faulting.run_fault (run_answer answer)) old new told c.answer_lines-answer.ensures.faults)
 
 pub returns-clause-answers : goal.returns-clause-answers
 returns-clause-answers g c =
@@ -147,5 +168,7 @@ returns-clause-blames g c =
     let v = c.args.show.now in
     let w = c.answer_lines-answer.new.kept in
     let unmade = c.answer_lines-answer.ensures.known _ (all_follow gives) (all_known v old.sessions) in
-    subst (λ r. IfErr r (ShowBlames gives v w old.sessions left before now (shown.IsTold new) (shown.view new).size (shown.image new))) (sym c.of_answers.ensures)
-    (shown_blames gives v w old.sessions before now (shown.IsTold new) (shown.view new).size (shown.image new) left c.answer_lines-answer.result unmade c.answer_lines-answer.ensures.blames)
+    subst (λ r. IfErr r (ShowBlames gives v w old.sessions left before now (shown.IsTold new) (shown.view new).size (shown.image new)))
+    (sym c.of_answers.ensures)
+    (shown_blames gives v w old.sessions before now (shown.IsTold new) (shown.view new).size
+    (shown.image new) left c.answer_lines-answer.result unmade c.answer_lines-answer.ensures.blames)

@@ -15,4 +15,5 @@ not_true h = cc
 
 pub returns-then-not-is_value-clause-none : goal.returns-then-not-is_value-clause-none
 returns-then-not-is_value-clause-none c = λ v. no_slot c.args.line.now c.in_ok-number.number v c.in_ok-number.ensures.found
-    (λ value. not_true (c.if-not-is_value.ensures.1 (subst IsValue (sym (to_z-of_z w128 c.in_ok-number.number (fits c.in_ok-number.number value))) value)))
+    (λ value. not_true (c.if-not-is_value.ensures.1
+    (subst IsValue (sym (to_z-of_z w128 c.in_ok-number.number (fits c.in_ok-number.number value))) value)))

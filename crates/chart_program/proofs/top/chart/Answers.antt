@@ -11,16 +11,20 @@ use Rattle.chart_program.proofs.ExactRuns.{drawings_told, runs_begun, runs_made}
 use Rattle.chart_program.proofs.LivesLemmas.{lives_told}
 use Rattle.chart_program.proofs.DrawnBook.{told_good, covers_book}
 use Rattle.chart_program.proofs.Codes.{told_both}
-use Rattle.chart_program.proofs.Words.{of_command, with_operands, chart_codes, streams, one_init, one_draw, completes, covers_complete, good_never, wrong_never, wrong_end}
+use Rattle.chart_program.proofs.Words.{of_command, with_operands, chart_codes, streams, one_init, one_draw, completes, covers_complete}
+use Rattle.chart_program.proofs.Words.{good_never, wrong_never, wrong_end}
 use Rattle.chart_program.proofs.OneCommand.{by_words}
-use Rattle.program_words.specs.declared.words.Command.TheVariants.{Check, Cover, Demo, Derive, Draw, Export, Host, Init, ListSeries, Live, Load, Plot, Retain, Run, Serve}
+use Rattle.program_words.specs.declared.words.Command.TheVariants.{Check, Cover, Demo, Derive, Draw, Export, Host, Init, ListSeries, Live}
+use Rattle.program_words.specs.declared.words.Command.TheVariants.{Load, Plot, Retain, Run, Serve}
 use Rattle.chart_program.proofs.top.chart.Goals as goal
 
 pub returns-in-Err-NoMemory-clause-codes : goal.returns-in-Err-NoMemory-clause-codes
 returns-in-Err-NoMemory-clause-codes g c = (2, omega arith, sym c.status_of-in-Err-NoMemory.ensures.code)
 
 pub returns-in-Err-Wrong-clause-ready : goal.returns-in-Err-Wrong-clause-ready
-returns-in-Err-Wrong-clause-ready g c = λ own free whole. absurd (wrong_never c.in-Err-Wrong.place _ Init own.0 own.1 (wrong_end c.in-Err-Wrong.field-0 c.in-Err-Wrong.place _ c.in-Err-Wrong.field-0-is c.in-Err-Wrong.ensures.wrong))
+returns-in-Err-Wrong-clause-ready g c = λ own free whole. absurd
+    (wrong_never c.in-Err-Wrong.place _ Init own.0 own.1
+    (wrong_end c.in-Err-Wrong.field-0 c.in-Err-Wrong.place _ c.in-Err-Wrong.field-0-is c.in-Err-Wrong.ensures.wrong))
 
 pub status_of_command-requires : goal.status_of_command-requires
 status_of_command-requires g c = with_operands c.in-Ok.command _ c.in-Ok.ensures.command
@@ -388,7 +392,8 @@ returns-in-Err-NoMemory-clause-ready g c = λ own free whole. inr c.status_of-in
 
 pub returns-in-Err-Wrong-clause-complete : goal.returns-in-Err-Wrong-clause-complete
 returns-in-Err-Wrong-clause-complete g c = λ given.
-    absurd (wrong_never c.in-Err-Wrong.place _ given.command.1.command given.command.0 given.command.1.spells (wrong_end c.in-Err-Wrong.field-0 c.in-Err-Wrong.place _ c.in-Err-Wrong.field-0-is c.in-Err-Wrong.ensures.wrong))
+    absurd (wrong_never c.in-Err-Wrong.place _ given.command.1.command given.command.0 given.command.1.spells
+    (wrong_end c.in-Err-Wrong.field-0 c.in-Err-Wrong.place _ c.in-Err-Wrong.field-0-is c.in-Err-Wrong.ensures.wrong))
 
 pub returns-in-Err-NoMemory-clause-complete : goal.returns-in-Err-NoMemory-clause-complete
 returns-in-Err-NoMemory-clause-complete g c = λ given. (1, omega arith, sym c.status_of-in-Err-NoMemory.ensures.code)
@@ -443,7 +448,9 @@ returns-in-Ok-clause-drawn g c =
     λ own. e.drawn (one_draw c.in-Ok.command _ c.in-Ok.ensures.command own.1)
 
 pub returns-in-Err-Wrong-clause-drawn : goal.returns-in-Err-Wrong-clause-drawn
-returns-in-Err-Wrong-clause-drawn g c = λ own. absurd (wrong_never c.in-Err-Wrong.place _ Draw own.0 own.1 (wrong_end c.in-Err-Wrong.field-0 c.in-Err-Wrong.place _ c.in-Err-Wrong.field-0-is c.in-Err-Wrong.ensures.wrong))
+returns-in-Err-Wrong-clause-drawn g c = λ own. absurd
+    (wrong_never c.in-Err-Wrong.place _ Draw own.0 own.1
+    (wrong_end c.in-Err-Wrong.field-0 c.in-Err-Wrong.place _ c.in-Err-Wrong.field-0-is c.in-Err-Wrong.ensures.wrong))
 
 pub returns-in-Err-NoMemory-clause-drawn : goal.returns-in-Err-NoMemory-clause-drawn
 returns-in-Err-NoMemory-clause-drawn g c = λ own. told_good _ _ (1, omega arith, sym c.status_of-in-Err-NoMemory.ensures.code)
@@ -467,7 +474,8 @@ returns-in-Ok-clause-life g c =
     let old = c.args.world in
     let new = c.status_of_command.result.1 in
     let e = c.status_of_command.ensures.ends in
-    λ other. inr (of_command _ c.in-Ok.command c.in-Ok.command _ refl c.in-Ok.ensures.command (lives_told c.in-Ok.command (view old) (view new) (left old) (sent old) (sent new) e.crash))
+    λ other. inr (of_command _ c.in-Ok.command c.in-Ok.command _ refl c.in-Ok.ensures.command
+    (lives_told c.in-Ok.command (view old) (view new) (left old) (sent old) (sent new) e.crash))
 
 pub returns-in-Err-Wrong-clause-life : goal.returns-in-Err-Wrong-clause-life
 returns-in-Err-Wrong-clause-life g c = λ other. absurd (other c.status_of.ensures.code)
@@ -484,7 +492,8 @@ returns-in-Ok-clause-exact g c =
     let new = c.status_of_command.result.1 in
     let e = c.status_of_command.ensures.ends in
     λ other. inr (of_command _ c.in-Ok.command c.in-Ok.command _ refl c.in-Ok.ensures.command
-    (runs_made c.servings_are_exact.ensures c.texts_are_exact.ensures c.lines_say_what_is_read.ensures c.pages_stand_for_one_book.ensures.book c.in-Ok.command
+    (runs_made c.servings_are_exact.ensures c.texts_are_exact.ensures c.lines_say_what_is_read.ensures
+    c.pages_stand_for_one_book.ensures.book c.in-Ok.command
     (view old) (view new) (left old) (left new) (sent old) (sent new) _ _ _ e))
 
 pub returns-in-Err-Wrong-clause-exact : goal.returns-in-Err-Wrong-clause-exact
@@ -535,7 +544,8 @@ returns-in-Ok-clause-covered g c =
 
 pub returns-in-Err-Wrong-clause-covered : goal.returns-in-Err-Wrong-clause-covered
 returns-in-Err-Wrong-clause-covered g c = λ given.
-    good_never c.in-Err-Wrong.place c.args.words.now _ _ _ (wrong_end c.in-Err-Wrong.field-0 c.in-Err-Wrong.place _ c.in-Err-Wrong.field-0-is c.in-Err-Wrong.ensures.wrong) given
+    good_never c.in-Err-Wrong.place c.args.words.now _ _ _
+    (wrong_end c.in-Err-Wrong.field-0 c.in-Err-Wrong.place _ c.in-Err-Wrong.field-0-is c.in-Err-Wrong.ensures.wrong) given
 
 pub returns-in-Err-NoMemory-clause-covered : goal.returns-in-Err-NoMemory-clause-covered
 returns-in-Err-NoMemory-clause-covered g c = λ given. (1, omega arith, sym c.status_of-in-Err-NoMemory.ensures.code)
@@ -544,7 +554,9 @@ pub returns-in-Ok-clause-covers : goal.returns-in-Ok-clause-covers
 returns-in-Ok-clause-covers g c =
     let e = c.status_of_command.ensures.ends in
     λ is. of_command _ c.in-Ok.command c.in-Ok.command _ refl c.in-Ok.ensures.command
-    (covers_book c.frames_draw_the_book.ensures.book c.in-Ok.command (g.W.Disk.view c.args.world) (g.W.Disk.view c.status_of_command.result.1) (g.W.Streams.left c.args.world) (g.W.Streams.sent c.args.world) (g.W.Streams.sent c.status_of_command.result.1) (e.done is))
+    (covers_book c.frames_draw_the_book.ensures.book c.in-Ok.command (g.W.Disk.view c.args.world)
+    (g.W.Disk.view c.status_of_command.result.1) (g.W.Streams.left c.args.world) (g.W.Streams.sent c.args.world)
+    (g.W.Streams.sent c.status_of_command.result.1) (e.done is))
 
 pub returns-in-Err-Wrong-clause-covers : goal.returns-in-Err-Wrong-clause-covers
 returns-in-Err-Wrong-clause-covers g c = λ is. apart (sym c.status_of.ensures.code ∙ is) refl
@@ -575,120 +587,160 @@ returns-in-Err-Wrong-clause-faults g c =
 pub returns-in-Err-NoMemory-clause-faults : goal.returns-in-Err-NoMemory-clause-faults
 returns-in-Err-NoMemory-clause-faults g c =
     let view = g.W.Disk.view c.args.world in
-    counts_as c.status_of-in-Err-NoMemory.result (status 3 0) view view c.status_of-in-Err-NoMemory.ensures.status (counts_none view view refl refl refl)
+    counts_as c.status_of-in-Err-NoMemory.result (status 3 0) view view c.status_of-in-Err-NoMemory.ensures.status
+    (counts_none view view refl refl refl)
 
 -- ---- the pages
 
 pub returns-in-Ok-clause-plot : goal.returns-in-Ok-clause-plot
-returns-in-Ok-clause-plot g c = λ w h own. inr (by_words c.in-Ok.command (Plot w h) _ _ _ c.in-Ok.ensures.command own.1 c.status_of_command.ensures.does)
+returns-in-Ok-clause-plot g c = λ w h own. inr (by_words c.in-Ok.command
+    (Plot w h) _ _ _ c.in-Ok.ensures.command own.1 c.status_of_command.ensures.does)
 
 pub returns-in-Err-Wrong-clause-plot : goal.returns-in-Err-Wrong-clause-plot
-returns-in-Err-Wrong-clause-plot g c = λ w h own. absurd (wrong_never c.in-Err-Wrong.place _ (Plot w h) own.0 own.1 (wrong_end c.in-Err-Wrong.field-0 c.in-Err-Wrong.place _ c.in-Err-Wrong.field-0-is c.in-Err-Wrong.ensures.wrong))
+returns-in-Err-Wrong-clause-plot g c = λ w h own. absurd
+    (wrong_never c.in-Err-Wrong.place _ (Plot w h) own.0 own.1
+    (wrong_end c.in-Err-Wrong.field-0 c.in-Err-Wrong.place _ c.in-Err-Wrong.field-0-is c.in-Err-Wrong.ensures.wrong))
 
 pub returns-in-Err-NoMemory-clause-plot : goal.returns-in-Err-NoMemory-clause-plot
 returns-in-Err-NoMemory-clause-plot g c = λ w h own. inl (c.status_of-in-Err-NoMemory.ensures.code, refl)
 
 pub returns-in-Ok-clause-load : goal.returns-in-Ok-clause-load
-returns-in-Ok-clause-load g c = λ name own. inr (by_words c.in-Ok.command (Load name) _ _ _ c.in-Ok.ensures.command own.1 c.status_of_command.ensures.does)
+returns-in-Ok-clause-load g c = λ name own. inr (by_words c.in-Ok.command
+    (Load name) _ _ _ c.in-Ok.ensures.command own.1 c.status_of_command.ensures.does)
 
 pub returns-in-Err-Wrong-clause-load : goal.returns-in-Err-Wrong-clause-load
-returns-in-Err-Wrong-clause-load g c = λ name own. absurd (wrong_never c.in-Err-Wrong.place _ (Load name) own.0 own.1 (wrong_end c.in-Err-Wrong.field-0 c.in-Err-Wrong.place _ c.in-Err-Wrong.field-0-is c.in-Err-Wrong.ensures.wrong))
+returns-in-Err-Wrong-clause-load g c = λ name own. absurd
+    (wrong_never c.in-Err-Wrong.place _ (Load name) own.0 own.1
+    (wrong_end c.in-Err-Wrong.field-0 c.in-Err-Wrong.place _ c.in-Err-Wrong.field-0-is c.in-Err-Wrong.ensures.wrong))
 
 pub returns-in-Err-NoMemory-clause-load : goal.returns-in-Err-NoMemory-clause-load
 returns-in-Err-NoMemory-clause-load g c = λ name own. inl (c.status_of-in-Err-NoMemory.ensures.code, refl)
 
 pub returns-in-Ok-clause-demo : goal.returns-in-Ok-clause-demo
-returns-in-Ok-clause-demo g c = λ seed rounds own. inr (by_words c.in-Ok.command (Demo seed rounds) _ _ _ c.in-Ok.ensures.command own.1 c.status_of_command.ensures.does)
+returns-in-Ok-clause-demo g c = λ seed rounds own. inr
+    (by_words c.in-Ok.command (Demo seed rounds) _ _ _ c.in-Ok.ensures.command own.1 c.status_of_command.ensures.does)
 
 pub returns-in-Err-Wrong-clause-demo : goal.returns-in-Err-Wrong-clause-demo
-returns-in-Err-Wrong-clause-demo g c = λ seed rounds own. absurd (wrong_never c.in-Err-Wrong.place _ (Demo seed rounds) own.0 own.1 (wrong_end c.in-Err-Wrong.field-0 c.in-Err-Wrong.place _ c.in-Err-Wrong.field-0-is c.in-Err-Wrong.ensures.wrong))
+returns-in-Err-Wrong-clause-demo g c = λ seed rounds own. absurd
+    (wrong_never c.in-Err-Wrong.place _ (Demo seed rounds) own.0 own.1
+    (wrong_end c.in-Err-Wrong.field-0 c.in-Err-Wrong.place _ c.in-Err-Wrong.field-0-is c.in-Err-Wrong.ensures.wrong))
 
 pub returns-in-Err-NoMemory-clause-demo : goal.returns-in-Err-NoMemory-clause-demo
 returns-in-Err-NoMemory-clause-demo g c = λ seed rounds own. inl (c.status_of-in-Err-NoMemory.ensures.code, refl)
 
 pub returns-in-Ok-clause-draw : goal.returns-in-Ok-clause-draw
-returns-in-Ok-clause-draw g c = λ own. inr (by_words c.in-Ok.command Draw _ _ _ c.in-Ok.ensures.command own.1 c.status_of_command.ensures.does)
+returns-in-Ok-clause-draw g c = λ own. inr (by_words c.in-Ok.command Draw _ _ _ c.in-Ok.ensures.command own.1
+    c.status_of_command.ensures.does)
 
 pub returns-in-Err-Wrong-clause-draw : goal.returns-in-Err-Wrong-clause-draw
-returns-in-Err-Wrong-clause-draw g c = λ own. absurd (wrong_never c.in-Err-Wrong.place _ Draw own.0 own.1 (wrong_end c.in-Err-Wrong.field-0 c.in-Err-Wrong.place _ c.in-Err-Wrong.field-0-is c.in-Err-Wrong.ensures.wrong))
+returns-in-Err-Wrong-clause-draw g c = λ own. absurd
+    (wrong_never c.in-Err-Wrong.place _ Draw own.0 own.1
+    (wrong_end c.in-Err-Wrong.field-0 c.in-Err-Wrong.place _ c.in-Err-Wrong.field-0-is c.in-Err-Wrong.ensures.wrong))
 
 pub returns-in-Err-NoMemory-clause-draw : goal.returns-in-Err-NoMemory-clause-draw
 returns-in-Err-NoMemory-clause-draw g c = λ own. inl (c.status_of-in-Err-NoMemory.ensures.code, refl)
 
 pub returns-in-Ok-clause-init : goal.returns-in-Ok-clause-init
-returns-in-Ok-clause-init g c = λ own. inr (by_words c.in-Ok.command Init _ _ _ c.in-Ok.ensures.command own.1 c.status_of_command.ensures.does)
+returns-in-Ok-clause-init g c = λ own. inr (by_words c.in-Ok.command Init _ _ _ c.in-Ok.ensures.command own.1
+    c.status_of_command.ensures.does)
 
 pub returns-in-Err-Wrong-clause-init : goal.returns-in-Err-Wrong-clause-init
-returns-in-Err-Wrong-clause-init g c = λ own. absurd (wrong_never c.in-Err-Wrong.place _ Init own.0 own.1 (wrong_end c.in-Err-Wrong.field-0 c.in-Err-Wrong.place _ c.in-Err-Wrong.field-0-is c.in-Err-Wrong.ensures.wrong))
+returns-in-Err-Wrong-clause-init g c = λ own. absurd
+    (wrong_never c.in-Err-Wrong.place _ Init own.0 own.1
+    (wrong_end c.in-Err-Wrong.field-0 c.in-Err-Wrong.place _ c.in-Err-Wrong.field-0-is c.in-Err-Wrong.ensures.wrong))
 
 pub returns-in-Err-NoMemory-clause-init : goal.returns-in-Err-NoMemory-clause-init
 returns-in-Err-NoMemory-clause-init g c = λ own. inl (c.status_of-in-Err-NoMemory.ensures.code, refl)
 
 pub returns-in-Ok-clause-check : goal.returns-in-Ok-clause-check
-returns-in-Ok-clause-check g c = λ own. inr (by_words c.in-Ok.command Check _ _ _ c.in-Ok.ensures.command own.1 c.status_of_command.ensures.does)
+returns-in-Ok-clause-check g c = λ own. inr (by_words c.in-Ok.command Check _ _ _ c.in-Ok.ensures.command own.1
+    c.status_of_command.ensures.does)
 
 pub returns-in-Err-Wrong-clause-check : goal.returns-in-Err-Wrong-clause-check
-returns-in-Err-Wrong-clause-check g c = λ own. absurd (wrong_never c.in-Err-Wrong.place _ Check own.0 own.1 (wrong_end c.in-Err-Wrong.field-0 c.in-Err-Wrong.place _ c.in-Err-Wrong.field-0-is c.in-Err-Wrong.ensures.wrong))
+returns-in-Err-Wrong-clause-check g c = λ own. absurd
+    (wrong_never c.in-Err-Wrong.place _ Check own.0 own.1
+    (wrong_end c.in-Err-Wrong.field-0 c.in-Err-Wrong.place _ c.in-Err-Wrong.field-0-is c.in-Err-Wrong.ensures.wrong))
 
 pub returns-in-Err-NoMemory-clause-check : goal.returns-in-Err-NoMemory-clause-check
 returns-in-Err-NoMemory-clause-check g c = λ own. inl (c.status_of-in-Err-NoMemory.ensures.code, refl)
 
 pub returns-in-Ok-clause-list : goal.returns-in-Ok-clause-list
-returns-in-Ok-clause-list g c = λ own. inr (by_words c.in-Ok.command ListSeries _ _ _ c.in-Ok.ensures.command own.1 c.status_of_command.ensures.does)
+returns-in-Ok-clause-list g c = λ own. inr (by_words c.in-Ok.command ListSeries _ _ _ c.in-Ok.ensures.command own.1
+    c.status_of_command.ensures.does)
 
 pub returns-in-Err-Wrong-clause-list : goal.returns-in-Err-Wrong-clause-list
-returns-in-Err-Wrong-clause-list g c = λ own. absurd (wrong_never c.in-Err-Wrong.place _ ListSeries own.0 own.1 (wrong_end c.in-Err-Wrong.field-0 c.in-Err-Wrong.place _ c.in-Err-Wrong.field-0-is c.in-Err-Wrong.ensures.wrong))
+returns-in-Err-Wrong-clause-list g c = λ own. absurd
+    (wrong_never c.in-Err-Wrong.place _ ListSeries own.0 own.1
+    (wrong_end c.in-Err-Wrong.field-0 c.in-Err-Wrong.place _ c.in-Err-Wrong.field-0-is c.in-Err-Wrong.ensures.wrong))
 
 pub returns-in-Err-NoMemory-clause-list : goal.returns-in-Err-NoMemory-clause-list
 returns-in-Err-NoMemory-clause-list g c = λ own. inl (c.status_of-in-Err-NoMemory.ensures.code, refl)
 
 pub returns-in-Ok-clause-export : goal.returns-in-Ok-clause-export
-returns-in-Ok-clause-export g c = λ name window own. inr (by_words c.in-Ok.command (Export name window) _ _ _ c.in-Ok.ensures.command own.1 c.status_of_command.ensures.does)
+returns-in-Ok-clause-export g c = λ name window own. inr
+    (by_words c.in-Ok.command (Export name window) _ _ _ c.in-Ok.ensures.command own.1 c.status_of_command.ensures.does)
 
 pub returns-in-Err-Wrong-clause-export : goal.returns-in-Err-Wrong-clause-export
-returns-in-Err-Wrong-clause-export g c = λ name window own. absurd (wrong_never c.in-Err-Wrong.place _ (Export name window) own.0 own.1 (wrong_end c.in-Err-Wrong.field-0 c.in-Err-Wrong.place _ c.in-Err-Wrong.field-0-is c.in-Err-Wrong.ensures.wrong))
+returns-in-Err-Wrong-clause-export g c = λ name window own. absurd
+    (wrong_never c.in-Err-Wrong.place _ (Export name window) own.0 own.1
+    (wrong_end c.in-Err-Wrong.field-0 c.in-Err-Wrong.place _ c.in-Err-Wrong.field-0-is c.in-Err-Wrong.ensures.wrong))
 
 pub returns-in-Err-NoMemory-clause-export : goal.returns-in-Err-NoMemory-clause-export
 returns-in-Err-NoMemory-clause-export g c = λ name window own. inl (c.status_of-in-Err-NoMemory.ensures.code, refl)
 
 pub returns-in-Ok-clause-cover : goal.returns-in-Ok-clause-cover
-returns-in-Ok-clause-cover g c = λ every own. inr (by_words c.in-Ok.command (Cover every) _ _ _ c.in-Ok.ensures.command own.1 c.status_of_command.ensures.does)
+returns-in-Ok-clause-cover g c = λ every own. inr (by_words c.in-Ok.command
+    (Cover every) _ _ _ c.in-Ok.ensures.command own.1 c.status_of_command.ensures.does)
 
 pub returns-in-Err-Wrong-clause-cover : goal.returns-in-Err-Wrong-clause-cover
-returns-in-Err-Wrong-clause-cover g c = λ every own. absurd (wrong_never c.in-Err-Wrong.place _ (Cover every) own.0 own.1 (wrong_end c.in-Err-Wrong.field-0 c.in-Err-Wrong.place _ c.in-Err-Wrong.field-0-is c.in-Err-Wrong.ensures.wrong))
+returns-in-Err-Wrong-clause-cover g c = λ every own. absurd
+    (wrong_never c.in-Err-Wrong.place _ (Cover every) own.0 own.1
+    (wrong_end c.in-Err-Wrong.field-0 c.in-Err-Wrong.place _ c.in-Err-Wrong.field-0-is c.in-Err-Wrong.ensures.wrong))
 
 pub returns-in-Err-NoMemory-clause-cover : goal.returns-in-Err-NoMemory-clause-cover
 returns-in-Err-NoMemory-clause-cover g c = λ every own. inl (c.status_of-in-Err-NoMemory.ensures.code, refl)
 
 pub returns-in-Ok-clause-derive : goal.returns-in-Ok-clause-derive
-returns-in-Ok-clause-derive g c = λ own. inr (by_words c.in-Ok.command Derive _ _ _ c.in-Ok.ensures.command own.1 c.status_of_command.ensures.does)
+returns-in-Ok-clause-derive g c = λ own. inr (by_words c.in-Ok.command Derive _ _ _ c.in-Ok.ensures.command own.1
+    c.status_of_command.ensures.does)
 
 pub returns-in-Err-Wrong-clause-derive : goal.returns-in-Err-Wrong-clause-derive
-returns-in-Err-Wrong-clause-derive g c = λ own. absurd (wrong_never c.in-Err-Wrong.place _ Derive own.0 own.1 (wrong_end c.in-Err-Wrong.field-0 c.in-Err-Wrong.place _ c.in-Err-Wrong.field-0-is c.in-Err-Wrong.ensures.wrong))
+returns-in-Err-Wrong-clause-derive g c = λ own. absurd
+    (wrong_never c.in-Err-Wrong.place _ Derive own.0 own.1
+    (wrong_end c.in-Err-Wrong.field-0 c.in-Err-Wrong.place _ c.in-Err-Wrong.field-0-is c.in-Err-Wrong.ensures.wrong))
 
 pub returns-in-Err-NoMemory-clause-derive : goal.returns-in-Err-NoMemory-clause-derive
 returns-in-Err-NoMemory-clause-derive g c = λ own. inl (c.status_of-in-Err-NoMemory.ensures.code, refl)
 
 pub returns-in-Ok-clause-retain : goal.returns-in-Ok-clause-retain
-returns-in-Ok-clause-retain g c = λ own. inr (by_words c.in-Ok.command Retain _ _ _ c.in-Ok.ensures.command own.1 c.status_of_command.ensures.does)
+returns-in-Ok-clause-retain g c = λ own. inr (by_words c.in-Ok.command Retain _ _ _ c.in-Ok.ensures.command own.1
+    c.status_of_command.ensures.does)
 
 pub returns-in-Err-Wrong-clause-retain : goal.returns-in-Err-Wrong-clause-retain
-returns-in-Err-Wrong-clause-retain g c = λ own. absurd (wrong_never c.in-Err-Wrong.place _ Retain own.0 own.1 (wrong_end c.in-Err-Wrong.field-0 c.in-Err-Wrong.place _ c.in-Err-Wrong.field-0-is c.in-Err-Wrong.ensures.wrong))
+returns-in-Err-Wrong-clause-retain g c = λ own. absurd
+    (wrong_never c.in-Err-Wrong.place _ Retain own.0 own.1
+    (wrong_end c.in-Err-Wrong.field-0 c.in-Err-Wrong.place _ c.in-Err-Wrong.field-0-is c.in-Err-Wrong.ensures.wrong))
 
 pub returns-in-Err-NoMemory-clause-retain : goal.returns-in-Err-NoMemory-clause-retain
 returns-in-Err-NoMemory-clause-retain g c = λ own. inl (c.status_of-in-Err-NoMemory.ensures.code, refl)
 
 pub returns-in-Ok-clause-live : goal.returns-in-Ok-clause-live
-returns-in-Ok-clause-live g c = λ own. inr (by_words c.in-Ok.command Live _ _ _ c.in-Ok.ensures.command own.1 c.status_of_command.ensures.does)
+returns-in-Ok-clause-live g c = λ own. inr (by_words c.in-Ok.command Live _ _ _ c.in-Ok.ensures.command own.1
+    c.status_of_command.ensures.does)
 
 pub returns-in-Ok-clause-host : goal.returns-in-Ok-clause-host
-returns-in-Ok-clause-host g c = λ own. inr (by_words c.in-Ok.command Host _ _ _ c.in-Ok.ensures.command own.1 c.status_of_command.ensures.does)
+returns-in-Ok-clause-host g c = λ own. inr (by_words c.in-Ok.command Host _ _ _ c.in-Ok.ensures.command own.1
+    c.status_of_command.ensures.does)
 
 pub returns-in-Err-Wrong-clause-live : goal.returns-in-Err-Wrong-clause-live
-returns-in-Err-Wrong-clause-live g c = λ own. absurd (wrong_never c.in-Err-Wrong.place _ Live own.0 own.1 (wrong_end c.in-Err-Wrong.field-0 c.in-Err-Wrong.place _ c.in-Err-Wrong.field-0-is c.in-Err-Wrong.ensures.wrong))
+returns-in-Err-Wrong-clause-live g c = λ own. absurd
+    (wrong_never c.in-Err-Wrong.place _ Live own.0 own.1
+    (wrong_end c.in-Err-Wrong.field-0 c.in-Err-Wrong.place _ c.in-Err-Wrong.field-0-is c.in-Err-Wrong.ensures.wrong))
 
 pub returns-in-Err-Wrong-clause-host : goal.returns-in-Err-Wrong-clause-host
-returns-in-Err-Wrong-clause-host g c = λ own. absurd (wrong_never c.in-Err-Wrong.place _ Host own.0 own.1 (wrong_end c.in-Err-Wrong.field-0 c.in-Err-Wrong.place _ c.in-Err-Wrong.field-0-is c.in-Err-Wrong.ensures.wrong))
+returns-in-Err-Wrong-clause-host g c = λ own. absurd
+    (wrong_never c.in-Err-Wrong.place _ Host own.0 own.1
+    (wrong_end c.in-Err-Wrong.field-0 c.in-Err-Wrong.place _ c.in-Err-Wrong.field-0-is c.in-Err-Wrong.ensures.wrong))
 
 pub returns-in-Err-NoMemory-clause-live : goal.returns-in-Err-NoMemory-clause-live
 returns-in-Err-NoMemory-clause-live g c = λ own. inl (c.status_of-in-Err-NoMemory.ensures.code, refl)
@@ -697,19 +749,25 @@ pub returns-in-Err-NoMemory-clause-host : goal.returns-in-Err-NoMemory-clause-ho
 returns-in-Err-NoMemory-clause-host g c = λ own. inl (c.status_of-in-Err-NoMemory.ensures.code, refl)
 
 pub returns-in-Ok-clause-run : goal.returns-in-Ok-clause-run
-returns-in-Ok-clause-run g c = λ own. inr (by_words c.in-Ok.command Run _ _ _ c.in-Ok.ensures.command own.1 c.status_of_command.ensures.does)
+returns-in-Ok-clause-run g c = λ own. inr (by_words c.in-Ok.command Run _ _ _ c.in-Ok.ensures.command own.1
+    c.status_of_command.ensures.does)
 
 pub returns-in-Err-Wrong-clause-run : goal.returns-in-Err-Wrong-clause-run
-returns-in-Err-Wrong-clause-run g c = λ own. absurd (wrong_never c.in-Err-Wrong.place _ Run own.0 own.1 (wrong_end c.in-Err-Wrong.field-0 c.in-Err-Wrong.place _ c.in-Err-Wrong.field-0-is c.in-Err-Wrong.ensures.wrong))
+returns-in-Err-Wrong-clause-run g c = λ own. absurd
+    (wrong_never c.in-Err-Wrong.place _ Run own.0 own.1
+    (wrong_end c.in-Err-Wrong.field-0 c.in-Err-Wrong.place _ c.in-Err-Wrong.field-0-is c.in-Err-Wrong.ensures.wrong))
 
 pub returns-in-Err-NoMemory-clause-run : goal.returns-in-Err-NoMemory-clause-run
 returns-in-Err-NoMemory-clause-run g c = λ own. inl (c.status_of-in-Err-NoMemory.ensures.code, refl)
 
 pub returns-in-Ok-clause-serve : goal.returns-in-Ok-clause-serve
-returns-in-Ok-clause-serve g c = λ own. inr (by_words c.in-Ok.command Serve _ _ _ c.in-Ok.ensures.command own.1 c.status_of_command.ensures.does)
+returns-in-Ok-clause-serve g c = λ own. inr (by_words c.in-Ok.command Serve _ _ _ c.in-Ok.ensures.command own.1
+    c.status_of_command.ensures.does)
 
 pub returns-in-Err-Wrong-clause-serve : goal.returns-in-Err-Wrong-clause-serve
-returns-in-Err-Wrong-clause-serve g c = λ own. absurd (wrong_never c.in-Err-Wrong.place _ Serve own.0 own.1 (wrong_end c.in-Err-Wrong.field-0 c.in-Err-Wrong.place _ c.in-Err-Wrong.field-0-is c.in-Err-Wrong.ensures.wrong))
+returns-in-Err-Wrong-clause-serve g c = λ own. absurd
+    (wrong_never c.in-Err-Wrong.place _ Serve own.0 own.1
+    (wrong_end c.in-Err-Wrong.field-0 c.in-Err-Wrong.place _ c.in-Err-Wrong.field-0-is c.in-Err-Wrong.ensures.wrong))
 
 pub returns-in-Err-NoMemory-clause-serve : goal.returns-in-Err-NoMemory-clause-serve
 returns-in-Err-NoMemory-clause-serve g c = λ own. inl (c.status_of-in-Err-NoMemory.ensures.code, refl)

@@ -44,10 +44,12 @@ returns-in_err-send_reply-in-Some g t c =
       done = on_err result _ _ residual;
       stops = error_goes (FramesCut g.R.Reply.makes frames kept kept' before now) result end residual
           (cut_first g.R.Reply.makes kept kept' frame later frames before now end is no.stops);
-      moments = moments_told g.R.Reply.makes kept frames old new before (moments_first g.R.Reply.makes kept frame later frames old new is made.moments);
+      moments = moments_told g.R.Reply.makes kept frames old new before
+          (moments_first g.R.Reply.makes kept frame later frames old new is made.moments);
       known = λ knows follows known. on_err result _ _ residual;
       named = λ knows follows known. error_goes (EndsKnown g.R.Reply.makes knows) result end residual
-          (ends_known g.R.Reply.makes knows kept kept' frame before now end (subst A is c.requires.fits 0 frame (omega arith)) (edit_known frame (knows kept) (subst E is c.requires.replies 0 frame (omega arith))) no.stops);
+          (ends_known g.R.Reply.makes knows kept kept' frame before now end (subst A is c.requires.fits 0 frame (omega arith))
+          (edit_known frame (knows kept) (subst E is c.requires.replies 0 frame (omega arith))) no.stops);
       ends = error_goes IsReplyEnd result end residual no.ends;
       send = λ fault. no.send (sym (error_is result end residual) ∙ fault);
       faults = fault_goes answer_fault result end old new residual no.faults;
@@ -111,16 +113,24 @@ returns-in_ok-send_reply-in-Some g t c =
     let fits = subst A is c.requires.fits 0 frame (omega arith) in
     let opens = edit_opens frame own own' (subst E is c.requires.replies 0 frame (omega arith)) made.sessions in
     record {
-      done = sent_later g.R.Reply.makes kept kept' last result frame later frames one.0 (sent pages) (sent mid) (sent new) is one.1 one.2 rest.done;
-      stops = cut_later g.R.Reply.makes kept kept' last result frame later frames one.0 (sent pages) (sent mid) (sent new) is one.1 one.2 rest.stops;
+      done = sent_later g.R.Reply.makes kept kept' last result frame later frames one.0 (sent pages) (sent mid)
+          (sent new) is one.1 one.2 rest.done;
+      stops = cut_later g.R.Reply.makes kept kept' last result frame later frames one.0 (sent pages) (sent mid)
+          (sent new) is one.1 one.2 rest.stops;
       moments = moments_later g.R.Reply.makes kept kept' frame later frames one.0 (view pages) (view mid) (view new) (sent pages) (sent mid)
           is one.1 one.2 (g.met.P.PageWorld.counts_sent pages) (g.met.P.PageWorld.counts_sent mid) made.moments rest.moments;
-      known = λ knows follows known. rest.known knows follows (known_next g.R.Reply.makes knows kept kept' frame own own' follows fits known opens one.0 one.1);
-      named = λ knows follows known. rest.named knows follows (known_next g.R.Reply.makes knows kept kept' frame own own' follows fits known opens one.0 one.1);
+      known = λ knows follows known. rest.known knows follows
+          (known_next g.R.Reply.makes knows kept kept' frame own own' follows fits known opens one.0 one.1);
+      named = λ knows follows known. rest.named knows follows
+          (known_next g.R.Reply.makes knows kept kept' frame own own' follows fits known opens one.0 one.1);
       ends = rest.ends;
-      send = λ fault. risen_since (g.P.Streams.send_faults pages) (g.P.Streams.send_faults mid) (g.P.Streams.send_faults new) (count_stays view (λ counts. counts.send) g.P.Streams.send_faults g.met.P.PageWorld.beside_send_faults pages mid c.in_ok-send_reply-in-Some.ensures.faults) (rest.send fault);
-      faults = counts_then (fault_in answer_fault result) (view pages) (view mid) (view new) c.in_ok-send_reply-in-Some.ensures.faults rest.faults;
-      keeps = pages_then (told pages) (told mid) (told new) (view pages) (view mid) (view new) (under pages) (under mid) (under new) made.keeps rest.keeps;
+      send = λ fault. risen_since (g.P.Streams.send_faults pages) (g.P.Streams.send_faults mid) (g.P.Streams.send_faults new)
+          (count_stays view (λ counts. counts.send) g.P.Streams.send_faults g.met.P.PageWorld.beside_send_faults pages mid
+          c.in_ok-send_reply-in-Some.ensures.faults) (rest.send fault);
+      faults = counts_then (fault_in answer_fault result) (view pages) (view mid)
+          (view new) c.in_ok-send_reply-in-Some.ensures.faults rest.faults;
+      keeps = pages_then (told pages) (told mid) (told new) (view pages) (view mid) (view new) (under pages) (under mid)
+          (under new) made.keeps rest.keeps;
       total = rest.total ∙ made.total;
       sessions = rest.sessions ∙ made.sessions;
       left = rest.left ∙ made.left;

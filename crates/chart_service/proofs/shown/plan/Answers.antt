@@ -16,7 +16,8 @@ use Rattle.chart_service.proofs.shown.plan.Goals as goal
 
 pub returns-in-Err-clause-refused : goal.returns-in-Err-clause-refused
 returns-in-Err-clause-refused g c =
-    range_refused c.args.number c.args.sessions.now (g.N.Nodes.view c.args.nodes.now) (g.N.Nodes.view c.shown_range.new.nodes) c.in-Err.error c.requires.opened c.in-Err.ensures.cause
+    range_refused c.args.number c.args.sessions.now (g.N.Nodes.view c.args.nodes.now)
+    (g.N.Nodes.view c.shown_range.new.nodes) c.in-Err.error c.requires.opened c.in-Err.ensures.cause
 
 pub plan_view-requires-clause-slots : goal.plan_view-requires-clause-slots
 plan_view-requires-clause-slots g c =
@@ -25,7 +26,8 @@ plan_view-requires-clause-slots g c =
     c.requires.slots ∙ sym first.slots
 
 pub plan_view-requires-clause-range : goal.plan_view-requires-clause-range
-plan_view-requires-clause-range g c = order_back c.in-Ok.range.lo c.in-Ok.range.hi (search rules) (search rules) c.in-Ok.ensures.in_frame.ordered
+plan_view-requires-clause-range g c = order_back c.in-Ok.range.lo c.in-Ok.range.hi (search rules)
+    (search rules) c.in-Ok.ensures.in_frame.ordered
 
 pub returns-in_err-plan-clause-refused : goal.returns-in_err-plan-clause-refused
 returns-in_err-plan-clause-refused g c =
@@ -36,7 +38,8 @@ returns-in_err-plan-clause-refused g c =
     let P : PlanError → Type 0 = RefusesView (session_of c.args.number c.args.sessions.now) old new in
     error_so (λ (e : PlanError). e ≡ c.in_err-plan.field-0.0) P c.from_residual.result c.from_residual.ensures.1
     (λ e is. subst P (sym is)
-    (plan_refused (session_of c.args.number c.args.sessions.now) old mid new c.args.axis c.args.spec.now.grid _ _ c.in_err-plan.field-0.0 first c.in-Ok.ensures.quiet c.in_err-plan.ensures.refused))
+    (plan_refused (session_of c.args.number c.args.sessions.now) old mid new c.args.axis c.args.spec.now.grid _ _ c.in_err-plan.field-0.0
+    first c.in-Ok.ensures.quiet c.in_err-plan.ensures.refused))
 
 pub returns-in_err-plan-clause-counted : goal.returns-in_err-plan-clause-counted
 returns-in_err-plan-clause-counted g c = λ list agrees.
@@ -47,17 +50,21 @@ returns-in_err-plan-clause-counted g c = λ list agrees.
     error_so (λ (e : PlanError). e ≡ c.in_err-plan.field-0.0) P c.from_residual.result c.from_residual.ensures.1
     (λ e is. subst P (sym is)
     (plan_counts list c.args.axis c.args.spec.now c.in-Ok.range c.in_err-plan.field-0.0 (c.in-Ok.ensures.shown list agrees)
-    (range_at (λ lo hi. CountsNeeded list c.args.axis c.args.spec.now.grid lo hi c.in_err-plan.field-0.0) _ _ c.in-Ok.range.lo c.in-Ok.range.hi
+    (range_at (λ lo hi. CountsNeeded list c.args.axis c.args.spec.now.grid lo hi c.in_err-plan.field-0.0) _ _ c.in-Ok.range.lo
+    c.in-Ok.range.hi
     (to_z-of_z w64 c.in-Ok.range.lo (search rules)) (to_z-of_z w64 c.in-Ok.range.hi (search rules))
-    (c.in_err-plan.ensures.counted list (c.agreeing_nodes_agree_for_views.ensures list c.args.axis c.args.spec.now.grid _ _ (still_agrees old mid list first agrees))))))
+    (c.in_err-plan.ensures.counted list (c.agreeing_nodes_agree_for_views.ensures list c.args.axis c.args.spec.now.grid _ _
+    (still_agrees old mid list first agrees))))))
 
 pub returns-in_err-plan-clause-kept : goal.returns-in_err-plan-clause-kept
 returns-in_err-plan-clause-kept g c =
-    g.met.N.Nodes.keeps_on c.args.nodes.now c.shown_range.new.nodes c.plan_view.new.nodes c.shown_range.ensures.kept c.plan_view.ensures.kept
+    g.met.N.Nodes.keeps_on c.args.nodes.now c.shown_range.new.nodes c.plan_view.new.nodes c.shown_range.ensures.kept
+    c.plan_view.ensures.kept
 
 pub returns-clause-kept : goal.returns-clause-kept
 returns-clause-kept g c =
-    g.met.N.Nodes.keeps_on c.args.nodes.now c.shown_range.new.nodes c.plan_view.new.nodes c.shown_range.ensures.kept c.plan_view.ensures.kept
+    g.met.N.Nodes.keeps_on c.args.nodes.now c.shown_range.new.nodes c.plan_view.new.nodes c.shown_range.ensures.kept
+    c.plan_view.ensures.kept
 
 pub returns-clause-needed : goal.returns-clause-needed
 returns-clause-needed g c = λ list agrees.
@@ -66,14 +73,17 @@ returns-clause-needed g c = λ list agrees.
     let first : StaysSame old mid = g.met.N.Nodes.keeps_same c.args.nodes.now c.shown_range.new.nodes c.shown_range.ensures.kept in
     range_at (λ lo hi. AreNeeded list c.args.axis c.args.spec.now.grid lo hi c.in_ok-plan.plan.needed) _ _ c.in-Ok.range.lo c.in-Ok.range.hi
     (to_z-of_z w64 c.in-Ok.range.lo (search rules)) (to_z-of_z w64 c.in-Ok.range.hi (search rules))
-    (c.in_ok-plan.ensures.needed list (c.agreeing_nodes_agree_for_views.ensures list c.args.axis c.args.spec.now.grid _ _ (still_agrees old mid list first agrees)))
+    (c.in_ok-plan.ensures.needed list (c.agreeing_nodes_agree_for_views.ensures list c.args.axis c.args.spec.now.grid _ _
+    (still_agrees old mid list first agrees)))
 
 pub returns-clause-told : goal.returns-clause-told
 returns-clause-told g c = λ list agrees.
     let all : StaysSame (g.N.Nodes.view c.args.nodes.now) (g.N.Nodes.view c.plan_view.new.nodes) =
     g.met.N.Nodes.keeps_same c.args.nodes.now c.plan_view.new.nodes
-    (g.met.N.Nodes.keeps_on c.args.nodes.now c.shown_range.new.nodes c.plan_view.new.nodes c.shown_range.ensures.kept c.plan_view.ensures.kept) in
-    tells_so c.spans_add_up.ensures.all (g.N.Nodes.view c.args.nodes.now) (g.N.Nodes.view c.plan_view.new.nodes) list c.args.axis c.args.spec.now c.root-root.result c.in-Ok.range agrees all
+    (g.met.N.Nodes.keeps_on c.args.nodes.now c.shown_range.new.nodes c.plan_view.new.nodes c.shown_range.ensures.kept
+    c.plan_view.ensures.kept) in
+    tells_so c.spans_add_up.ensures.all (g.N.Nodes.view c.args.nodes.now)
+    (g.N.Nodes.view c.plan_view.new.nodes) list c.args.axis c.args.spec.now c.root-root.result c.in-Ok.range agrees all
     c.root-root.ensures.root (c.in-Ok.ensures.shown list agrees)
 
 pub returns-in-Err-clause-quiet_err : goal.returns-in-Err-clause-quiet_err
@@ -90,7 +100,8 @@ returns-in_err-plan-clause-reads g c = omega (arith, c.shown_range.ensures.reads
 
 pub returns-in_err-plan-clause-quiet_err : goal.returns-in_err-plan-clause-quiet_err
 returns-in_err-plan-clause-quiet_err g c =
-    let P : PlanError → Type 0 = λ e. e ≢ Node DiskFault → (g.N.Nodes.view c.plan_view.new.nodes).faults ≡ (g.N.Nodes.view c.args.nodes.now).faults in
+    let P : PlanError → Type 0 = λ e. e ≢ Node DiskFault
+    → (g.N.Nodes.view c.plan_view.new.nodes).faults ≡ (g.N.Nodes.view c.args.nodes.now).faults in
     error_so (λ (e : PlanError). e ≡ c.in_err-plan.field-0.0) P c.from_residual.result c.from_residual.ensures.1
     (λ e is. subst P (sym is) (λ other. c.in_err-plan.ensures.quiet_err other ∙ c.in-Ok.ensures.quiet))
 
@@ -116,10 +127,12 @@ pub returns-clause-root : goal.returns-clause-root
 returns-clause-root g c =
     let all : StaysSame (g.N.Nodes.view c.args.nodes.now) (g.N.Nodes.view c.plan_view.new.nodes) =
     g.met.N.Nodes.keeps_same c.args.nodes.now c.plan_view.new.nodes
-    (g.met.N.Nodes.keeps_on c.args.nodes.now c.shown_range.new.nodes c.plan_view.new.nodes c.shown_range.ensures.kept c.plan_view.ensures.kept) in
+    (g.met.N.Nodes.keeps_on c.args.nodes.now c.shown_range.new.nodes c.plan_view.new.nodes c.shown_range.ensures.kept
+    c.plan_view.ensures.kept) in
     c.root-root.ensures.root ∙ all.root
 
 pub returns-in_err-plan-clause-large : goal.returns-in_err-plan-clause-large
 returns-in_err-plan-clause-large g c =
     let P : PlanError → Type 0 = NeedsAtMost (most_needed c.args.spec.now.grid.w c.args.axis.slots) in
-    error_so (λ (e : PlanError). e ≡ c.in_err-plan.field-0.0) P c.from_residual.result c.from_residual.ensures.1 (λ e is. subst P (sym is) c.in_err-plan.ensures.large)
+    error_so (λ (e : PlanError). e ≡ c.in_err-plan.field-0.0) P c.from_residual.result c.from_residual.ensures.1
+    (λ e is. subst P (sym is) c.in_err-plan.ensures.large)

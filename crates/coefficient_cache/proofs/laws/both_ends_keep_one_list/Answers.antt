@@ -10,4 +10,5 @@ returns-clause-looked_up _ pairs series needed distinct =
 
 pub returns-clause-renewed : goal.returns-clause-renewed
 returns-clause-renewed _ capacity pairs series needed distinct =
-    ap (λ l. renewed capacity pairs (in_series series l)) (looked-up (in_series series (to_send pairs series needed) ++ pairs) series needed (sent-and-held pairs series needed distinct))
+    ap (λ l. renewed capacity pairs (in_series series l))
+    (looked-up (in_series series (to_send pairs series needed) ++ pairs) series needed (sent-and-held pairs series needed distinct))

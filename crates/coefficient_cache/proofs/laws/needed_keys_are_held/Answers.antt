@@ -8,4 +8,5 @@ returns-clause-given _ = needed-held
 
 pub returns-clause-nothing_to_send : goal.returns-clause-nothing_to_send
 returns-clause-nothing_to_send _ capacity pairs series needed distinct fits =
-    nothing-to-send (renewed capacity pairs (in_series series needed)) series needed (needed-held capacity pairs series needed distinct fits)
+    nothing-to-send (renewed capacity pairs (in_series series needed)) series needed
+    (needed-held capacity pairs series needed distinct fits)

@@ -12,10 +12,12 @@ loop-i-preserved c =
     let puts = c.args.puts.now in
     let needed : List (Key × Coef) = c.args.needed.now in
     let held = c.is_of.ensures c.if-not-is_of.false in
-    keys-more puts (length puts - length needed) c.args.series needed c.loop-i.i none c.new.result held.0 c.loop-i-test.true held.1 c.new.ensures c.loop-i.invariant
+    keys-more puts (length puts - length needed) c.args.series needed c.loop-i.i none c.new.result held.0 c.loop-i-test.true held.1
+    c.new.ensures c.loop-i.invariant
 
 pub returns : goal.returns
 returns c = λ _.
     let puts = c.args.puts.now in
     let needed : List (Key × Coef) = c.args.needed.now in
-    keys-all puts (length puts - length needed) c.args.series needed c.loop-i.i refl c.if-puts-needed.false (omega (arith, c.loop-i-test.false, c.loop-i.auto.i-end)) c.loop-i.invariant
+    keys-all puts (length puts - length needed) c.args.series needed c.loop-i.i refl c.if-puts-needed.false
+    (omega (arith, c.loop-i-test.false, c.loop-i.auto.i-end)) c.loop-i.invariant

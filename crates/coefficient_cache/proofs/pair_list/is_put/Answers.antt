@@ -4,4 +4,5 @@ use Rattle.coefficient_cache.proofs.Unmoved.{same-pair}
 use Rattle.coefficient_cache.proofs.pair_list.is_put.Goals as goal
 
 pub returns-in-Some : goal.returns-in-Some
-returns-in-Some c = λ is. c.in-Some.is ∙ ap some_pair (same-pair c.in-Some.held c.args.key c.in-Some.value c.args.coef c.is_pair.result is c.is_pair.ensures)
+returns-in-Some c = λ is. c.in-Some.is ∙ ap some_pair
+    (same-pair c.in-Some.held c.args.key c.in-Some.value c.args.coef c.is_pair.result is c.is_pair.ensures)

@@ -15,7 +15,8 @@ add-requires-clause-new c =
 
 pub add-requires-clause-room : goal.add-requires-clause-room
 add-requires-clause-room c =
-    let room = packed-room c.args.puts.now c.loop-place.place c.args.capacity (with_coef c.in-Some.key c.in-Some.coef) c.in-Some.is c.requires.within in
+    let room = packed-room c.args.puts.now c.loop-place.place c.args.capacity
+    (with_coef c.in-Some.key c.in-Some.coef) c.in-Some.is c.requires.within in
     omega (arith, room, ap length c.loop-place.invariant.pairs, c.loop-place.invariant.limit)
 
 pub loop-place-preserved : goal.loop-place-preserved
@@ -28,7 +29,8 @@ loop-place-preserved c = elim c.match-puts-place.branch [
         limit = ap (λ (v : Cache). v.capacity) w.list-is ∙ w.in_ok-add.ensures.capacity ∙ c.loop-place.invariant.limit;
       }
   | in_default w ↦ record {
-    pairs = ap (λ (v : Cache). v.pairs) w.list-is ∙ c.loop-place.invariant.pairs ∙ packed-same c.args.puts.now c.loop-place.place c.loop-place-test.true w.in_default.is;
+    pairs = ap (λ (v : Cache). v.pairs) w.list-is ∙ c.loop-place.invariant.pairs
+        ∙ packed-same c.args.puts.now c.loop-place.place c.loop-place-test.true w.in_default.is;
     limit = ap (λ (v : Cache). v.capacity) w.list-is ∙ c.loop-place.invariant.limit;
   }
 ]

@@ -25,7 +25,8 @@ loop-i-preserved c =
     let i = c.loop-i.i in
     let coef : Coef = (get_or needed i none).1 in
     record {
-      set = set-more old c.loop-i.puts.items front c.args.series needed i none c.new.result coef (omega (arith, c.requires, long)) c.loop-i-test.true c.loop-i.invariant.set c.new.ensures refl;
+      set = set-more old c.loop-i.puts.items front c.args.series needed i none c.new.result coef
+          (omega (arith, c.requires, long)) c.loop-i-test.true c.loop-i.invariant.set c.new.ensures refl;
       size = length-set c.loop-i.puts.items (front + i) (Some (with_coef c.new.result coef)) ∙ c.loop-i.invariant.size;
     }
 
@@ -34,5 +35,6 @@ returns c =
     let old = c.args.puts.now.items in
     let needed : List (Key × Coef) = c.args.needed.now in
     let long : c.len.result ≡ length old = c.len.ensures ∙ c.args.puts.now.ok.0 in
-    set-all old c.loop-i.puts.items (c.len.result - length needed) c.args.series needed c.loop-i.i (omega (arith, c.requires, long)) (omega (arith, c.loop-i-test.false, c.loop-i.auto.i-end)) c.loop-i.invariant.set
+    set-all old c.loop-i.puts.items (c.len.result - length needed) c.args.series needed c.loop-i.i (omega (arith, c.requires, long))
+    (omega (arith, c.loop-i-test.false, c.loop-i.auto.i-end)) c.loop-i.invariant.set
     ∙ ap (λ n. take (n - length needed) old ++ put_in c.args.series needed) long

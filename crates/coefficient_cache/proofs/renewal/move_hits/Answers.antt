@@ -23,8 +23,11 @@ loop-key-init c = record {
 pub loop-key-preserved : goal.loop-key-preserved
 loop-key-preserved c =
     let was = c.loop-key.invariant in let turn = c.in_ok-is_there.ensures in record {
-      moved = hits-step c.args.series c.args.needed.now c.loop-key.key-index _ c.requires c.loop-key-test.true c.args.list.now.pairs c.loop-key.list c.new.result _ c.len-length.ensures.valid.distinct was.moved c.new.ensures turn.pairs;
-      flags = c.in_ok-push.ensures.items ∙ flags-step c.args.series c.args.needed.now c.loop-key.key-index _ c.requires c.loop-key-test.true c.args.list.now.pairs c.loop-key.list c.new.result c.in_ok-is_there.is_there c.loop-key.is_new.items was.moved c.new.ensures turn.there was.flags;
+      moved = hits-step c.args.series c.args.needed.now c.loop-key.key-index _ c.requires c.loop-key-test.true c.args.list.now.pairs
+          c.loop-key.list c.new.result _ c.len-length.ensures.valid.distinct was.moved c.new.ensures turn.pairs;
+      flags = c.in_ok-push.ensures.items ∙ flags-step c.args.series c.args.needed.now c.loop-key.key-index _ c.requires c.loop-key-test.true
+          c.args.list.now.pairs c.loop-key.list c.new.result c.in_ok-is_there.is_there c.loop-key.is_new.items was.moved c.new.ensures
+          turn.there was.flags;
       capacity = turn.capacity ∙ was.capacity;
     }
 

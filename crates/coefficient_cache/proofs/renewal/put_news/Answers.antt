@@ -11,20 +11,28 @@ none = (record { level = 0; index = 0 }, record { left = false; right = false; d
 pub put-requires : goal.put-requires
 put-requires c =
     let was = c.loop-i.invariant in
-    new-there c.args.series c.args.needed.now c.loop-i.i none c.requires.distinct c.loop-i-test.true c.args.list.now.pairs c.loop-i.list c.args.list.now.capacity c.new.result (flag-at c.args.series c.args.needed.now c.loop-i.i none c.requires.distinct c.loop-i-test.true c.args.list.now.pairs c.args.is_new.now true false c.requires.news c.if-is_new-i.true) was.topped c.new.ensures
+    new-there c.args.series c.args.needed.now c.loop-i.i none c.requires.distinct c.loop-i-test.true c.args.list.now.pairs c.loop-i.list
+    c.args.list.now.capacity c.new.result (flag-at c.args.series c.args.needed.now c.loop-i.i none c.requires.distinct
+    c.loop-i-test.true c.args.list.now.pairs c.args.is_new.now true false c.requires.news c.if-is_new-i.true) was.topped c.new.ensures
 
 pub loop-i-preserved : goal.loop-i-preserved
 loop-i-preserved c = elim c.if-is_new-i.branch [
   | then-is_new-i+in_ok-put w ↦
       let was = c.loop-i.invariant in
       let put = w.in_ok-put.ensures in record {
-        topped = ap (λ p. p.pairs) w.list-is ∙ new-step c.args.series c.args.needed.now c.loop-i.i _ c.requires.distinct c.loop-i-test.true c.args.list.now.pairs c.loop-i.list c.args.list.now.capacity w.new.result _ c.len-length.ensures.limit.0 (flag-at c.args.series c.args.needed.now c.loop-i.i _ c.requires.distinct c.loop-i-test.true c.args.list.now.pairs c.args.is_new.now true false c.requires.news w.if-is_new-i.true) was.topped was.capacity w.new.ensures put.pairs;
+        topped = ap (λ p. p.pairs) w.list-is ∙ new-step c.args.series c.args.needed.now c.loop-i.i _ c.requires.distinct c.loop-i-test.true
+            c.args.list.now.pairs c.loop-i.list c.args.list.now.capacity w.new.result _ c.len-length.ensures.limit.0
+            (flag-at c.args.series c.args.needed.now c.loop-i.i _ c.requires.distinct c.loop-i-test.true c.args.list.now.pairs
+            c.args.is_new.now true false c.requires.news w.if-is_new-i.true) was.topped was.capacity w.new.ensures put.pairs;
         capacity = ap (λ p. p.capacity) w.list-is ∙ put.capacity ∙ was.capacity;
       }
   | else-is_new-i w ↦
       let was = c.loop-i.invariant in
       record {
-        topped = ap (λ p. p.pairs) w.list-is ∙ old-step c.args.series c.args.needed.now c.loop-i.i none c.requires.distinct c.loop-i-test.true c.args.list.now.pairs c.loop-i.list.pairs c.args.list.now.capacity (flag-at c.args.series c.args.needed.now c.loop-i.i none c.requires.distinct c.loop-i-test.true c.args.list.now.pairs c.args.is_new.now false false c.requires.news w.if-is_new-i.false) was.topped;
+        topped = ap (λ p. p.pairs) w.list-is ∙ old-step c.args.series c.args.needed.now c.loop-i.i none c.requires.distinct
+            c.loop-i-test.true c.args.list.now.pairs c.loop-i.list.pairs c.args.list.now.capacity
+            (flag-at c.args.series c.args.needed.now c.loop-i.i none c.requires.distinct c.loop-i-test.true c.args.list.now.pairs
+            c.args.is_new.now false false c.requires.news w.if-is_new-i.false) was.topped;
         capacity = ap (λ p. p.capacity) w.list-is ∙ was.capacity;
       }
 ]

@@ -5,6 +5,7 @@ use Rattle.coefficient_cache.proofs.renewal.put_news.Given as goal
 
 abbrev pub invariant-loop-i : goal.invariant-loop-i
 invariant-loop-i l = record {
-  topped : l.list.pairs ≡ take l.fn.list.capacity (reverse (news l.fn.list.pairs (in_series l.series (take l.i l.needed))) ++ l.fn.list.pairs);
+  topped : l.list.pairs ≡ take l.fn.list.capacity (reverse
+      (news l.fn.list.pairs (in_series l.series (take l.i l.needed))) ++ l.fn.list.pairs);
   capacity : l.list.capacity ≡ l.fn.list.capacity;
 }

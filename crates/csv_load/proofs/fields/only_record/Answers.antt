@@ -18,7 +18,8 @@ returns-then-not-has_first-clause-ok c =
     let ready : Ready c.from_reader-reader.result = search rules in
     let starts : Starts left c.from_reader-reader.result (strip_bom c.args.line.now) =
     record { config = config; state = state; source = c.from_reader-reader.ensures.source } in
-    sym (none_by left c.from_reader-reader.result c.read_byte_record.new.self (strip_bom c.args.line.now) c.in-Ok.has_first (fields_of c.read_byte_record.new.row)
+    sym (none_by left c.from_reader-reader.result c.read_byte_record.new.self (strip_bom c.args.line.now) c.in-Ok.has_first
+    (fields_of c.read_byte_record.new.row)
     starts c.if-not-has_first.true (c.in-Ok.ensures.reads untrimmed ready))
 
 pub returns-then-has_second-clause-ok : goal.returns-then-has_second-clause-ok
@@ -32,7 +33,8 @@ returns-then-has_second-clause-ok c =
     let still_untrimmed : reader_trim c.read_byte_record.new.self ≡ trim.None = search rules in
     let still_ready : Ready c.read_byte_record.new.self = search rules in
     sym (two_by left c.from_reader-reader.result c.read_byte_record.new.self c.read_byte_record-2.new.self (strip_bom c.args.line.now)
-    c.in-Ok.has_first c.in-Ok-read_byte_record.has_second (fields_of c.read_byte_record.new.row) (fields_of c.read_byte_record-2.new.row) starts
+    c.in-Ok.has_first c.in-Ok-read_byte_record.has_second (fields_of c.read_byte_record.new.row)
+    (fields_of c.read_byte_record-2.new.row) starts
     c.if-not-has_first.false (c.in-Ok.ensures.reads untrimmed ready)
     c.if-has_second.true (c.in-Ok-read_byte_record.ensures.reads still_untrimmed still_ready))
 
@@ -47,6 +49,7 @@ returns-clause-ok c =
     let still_untrimmed : reader_trim c.read_byte_record.new.self ≡ trim.None = search rules in
     let still_ready : Ready c.read_byte_record.new.self = search rules in
     sym (one_by left c.from_reader-reader.result c.read_byte_record.new.self c.read_byte_record-2.new.self (strip_bom c.args.line.now)
-    c.in-Ok.has_first c.in-Ok-read_byte_record.has_second (fields_of c.read_byte_record.new.row) (fields_of c.read_byte_record-2.new.row) starts
+    c.in-Ok.has_first c.in-Ok-read_byte_record.has_second (fields_of c.read_byte_record.new.row)
+    (fields_of c.read_byte_record-2.new.row) starts
     c.if-not-has_first.false (c.in-Ok.ensures.reads untrimmed ready)
     c.if-has_second.false (c.in-Ok-read_byte_record.ensures.reads still_untrimmed still_ready))

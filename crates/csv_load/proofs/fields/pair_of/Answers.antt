@@ -7,7 +7,8 @@ pub returns-in_err-time : goal.returns-in_err-time
 returns-in_err-time c = absurd (first_there (fields_of c.args.row.now) (sym c.len.ensures ∙ c.if-len-ne2.false) c.in_err-time.ensures.value)
 
 pub returns-in_err-value : goal.returns-in_err-value
-returns-in_err-value c = absurd (second_there (fields_of c.args.row.now) (sym c.len.ensures ∙ c.if-len-ne2.false) c.in_err-value.ensures.value)
+returns-in_err-value c = absurd (second_there (fields_of c.args.row.now) (sym c.len.ensures
+    ∙ c.if-len-ne2.false) c.in_err-value.ensures.value)
 
 pub returns : goal.returns
 returns c =

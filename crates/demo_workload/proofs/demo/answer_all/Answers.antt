@@ -30,11 +30,16 @@ returns-clause-answered g c =
     let closed : answer ≢ Err DiskFault → IsClosed (view new) =
     λ other.
     let P : g.row.W.Denot → Type 0 = λ d. IsClosed (view d) in
-    subst P same_disk (c.disk_of.ensures.rests (subst IsTrue (sym (store_sound store after.store c.into_store.ensures)) (made.fit other))) in
+    subst P same_disk (c.disk_of.ensures.rests (subst IsTrue (sym (store_sound store after.store c.into_store.ensures)) (made.fit other)))
+    in
     let R : ℕ → Type 0 = λ n. Answered (workload c.args.seed n) pages.count (view disk) (view new) answer in
     let D : g.row.W.Denot → Type 0 = λ d. Answered (workload c.args.seed c.args.rounds) pages.count (view disk) (view d) answer in
-    subst D (sym same_disk) (subst R c.from.ensures (answered_by (workload c.args.seed c.from.result) pages.count end_pages.count pages.sound end_pages.sound (view disk) (view new) after.sessions
-    made.runs.size made.runs.told made.runs.faults made.runs.beside made.goes_on (rests_new pages.count (view disk) (shown.numbers c.args.service) (pages.at_rest c.requires.sound) (c.args.service.store.space.spelled c.requires.sound)) answer
+    subst D (sym same_disk) (subst R c.from.ensures
+    (answered_by (workload c.args.seed c.from.result) pages.count end_pages.count pages.sound end_pages.sound (view disk)
+    (view new) after.sessions
+    made.runs.size made.runs.told made.runs.faults made.runs.beside made.goes_on
+    (rests_new pages.count (view disk) (shown.numbers c.args.service) (pages.at_rest c.requires.sound)
+    (c.args.service.store.space.spelled c.requires.sound)) answer
     made.done made.standing made.moments made.left made.cause closed))
 
 pub returns-clause-faults : goal.returns-clause-faults
@@ -63,7 +68,10 @@ returns-clause-reads g c =
     let pages = shown.pages c.args.service in
     let after = c.run_workload-answer.new.service in
     let same_disk = c.disk_of.ensures.disk ∙ store_disk c.into_store.result after.store c.into_store.ensures in
-    let rests = rests_new pages.count (view pages.disk) (shown.numbers c.args.service) (pages.at_rest c.requires.sound) (c.args.service.store.space.spelled c.requires.sound) in
+    let rests = rests_new pages.count (view pages.disk) (shown.numbers c.args.service) (pages.at_rest c.requires.sound)
+    (c.args.service.store.space.spelled c.requires.sound) in
     let R : ℕ → Type 0 = λ n. ReadsRequests (workload c.args.seed n) pages.count (view pages.disk) (view (shown.pages after).disk) in
     let D : g.row.W.Denot → Type 0 = λ d. ReadsRequests (workload c.args.seed c.args.rounds) pages.count (view pages.disk) (view d) in
-    subst D (sym same_disk) (subst R c.from.ensures (few_over (workload c.args.seed c.from.result) pages.count (view pages.disk) (view (shown.pages after).disk) rests c.run_workload-answer.ensures.reads))
+    subst D (sym same_disk) (subst R c.from.ensures
+    (few_over (workload c.args.seed c.from.result) pages.count (view pages.disk)
+    (view (shown.pages after).disk) rests c.run_workload-answer.ensures.reads))

@@ -22,14 +22,16 @@ returns-in-Err-clause-answered g c =
     let back = c.in-Err.field-0.value in
     let requests = workload c.args.seed c.args.rounds in
     let D : g.row.W.Denot → Type 0 = λ d. Answered requests pages.count (view pages.disk) (view d) (Err NoMemory) in
-    subst D (sym (c.disk_of.ensures.disk ∙ store_disk back store c.in-Err.ensures.back)) (answered_none requests pages.count (view pages.disk))
+    subst D (sym (c.disk_of.ensures.disk ∙ store_disk back store c.in-Err.ensures.back))
+    (answered_none requests pages.count (view pages.disk))
 
 pub returns-in-Err-clause-faults : goal.returns-in-Err-clause-faults
 returns-in-Err-clause-faults g c =
     let view = g.W.Disk.view in
     let old = view (shown.pages c.args.store).disk in
     let D : g.row.W.Denot → Type 0 = λ d. CountsFault None old (view d) in
-    subst D (sym (c.disk_of.ensures.disk ∙ store_disk c.in-Err.field-0.value c.args.store c.in-Err.ensures.back)) (counts_none old old refl refl refl)
+    subst D (sym (c.disk_of.ensures.disk ∙ store_disk c.in-Err.field-0.value c.args.store c.in-Err.ensures.back))
+    (counts_none old old refl refl refl)
 
 pub returns-in-Err-clause-costs : goal.returns-in-Err-clause-costs
 returns-in-Err-clause-costs g c =
@@ -45,11 +47,13 @@ returns-in-Err-clause-reads g c =
     let pages = shown.pages c.args.store in
     let requests = workload c.args.seed c.args.rounds in
     let D : g.row.W.Denot → Type 0 = λ d. ReadsRequests requests pages.count (view pages.disk) (view d) in
-    subst D (sym (c.disk_of.ensures.disk ∙ store_disk c.in-Err.field-0.value c.args.store c.in-Err.ensures.back)) (few_none requests pages.count (view pages.disk))
+    subst D (sym (c.disk_of.ensures.disk ∙ store_disk c.in-Err.field-0.value c.args.store c.in-Err.ensures.back))
+    (few_none requests pages.count (view pages.disk))
 
 pub returns-in-Ok-clause-reads : goal.returns-in-Ok-clause-reads
 returns-in-Ok-clause-reads g c =
     let view = g.W.Disk.view in
     let requests = workload c.args.seed c.args.rounds in
-    let S : Store _ _ → Type 0 = λ s. ReadsRequests requests (shown.pages s).count (view (shown.pages s).disk) (view c.answer_all.result.1) in
+    let S : Store _ _ → Type 0 = λ s. ReadsRequests requests (shown.pages s).count (view (shown.pages s).disk)
+    (view c.answer_all.result.1) in
     subst S c.in-Ok.ensures.store c.answer_all.ensures.reads

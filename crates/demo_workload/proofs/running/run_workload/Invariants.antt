@@ -26,9 +26,11 @@ invariant-requests g l = record {
   knows : KnowsOpen l.service.sessions l.client;
   accepted : HasAccepted l.client;
   reaches : (total : ℕ) (book : List Series) → shown.IsTold l.fn.service → StandsForBook (shown.image l.fn.service) total book
-      → Reaches (workload l.fn.seed l.fn.count) l.workload total (state_of book total []) (shown.image l.service) l.service.sessions l.client l.summary;
+      → Reaches (workload l.fn.seed l.fn.count) l.workload total (state_of book total [])
+      (shown.image l.service) l.service.sessions l.client l.summary;
   moments : (total : ℕ) (book : List Series) → shown.IsTold l.fn.service → StandsForBook (shown.image l.fn.service) total book
-      → Passes (shown.view l.fn.service) (shown.view l.service) (IsPartWay (workload l.fn.seed l.fn.count) total (state_of book total [])) (Quiet (shown.view l.fn.service));
+      → Passes (shown.view l.fn.service) (shown.view l.service) (IsPartWay (workload l.fn.seed l.fn.count) total (state_of book total []))
+      (Quiet (shown.view l.fn.service));
   are : AreOfDemo l.workload;
   reads : (total : ℕ) (book : List Series) → shown.IsTold l.fn.service → StandsForBook (shown.image l.fn.service) total book
       → (shown.view l.service).reads + most_reads l.workload ≤ (shown.view l.fn.service).reads + most_reads (workload l.fn.seed l.fn.count);

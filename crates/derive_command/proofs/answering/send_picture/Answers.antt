@@ -7,7 +7,8 @@ use Rattle.derive_command.proofs.answering.send_picture.Goals as goal
 pub returns-in_default-clause-beside : goal.returns-in_default-clause-beside
 returns-in_default-clause-beside g c =
     let at = c.args.store.now in
-    shown.keeps_none at (g.met.P.Streams.sends_more 0 (length (picture c.args.chart.now)) (shown.pages at) (shown.pages at) (omega arith) (g.met.P.Streams.sends_none (shown.pages at)))
+    shown.keeps_none at (g.met.P.Streams.sends_more 0 (length (picture c.args.chart.now)) (shown.pages at) (shown.pages at) (omega arith)
+    (g.met.P.Streams.sends_none (shown.pages at)))
 
 pub returns-in-Ok-send-clause-faults : goal.returns-in-Ok-send-clause-faults
 returns-in-Ok-send-clause-faults g c =
@@ -18,7 +19,8 @@ returns-in-Ok-send-clause-faults g c =
     let old = shown.pages c.args.store.now in
     let new = shown.pages c.send.new.self in
     let kept = w.send_keeps _ old new c.send.ensures.beside.pages_are in
-    counts_kept view reads sends w.beside_read_faults w.beside_send_faults old new kept c.send.ensures.read_faults c.in-Ok-send.ensures.quiet
+    counts_kept view reads sends w.beside_read_faults w.beside_send_faults old new kept c.send.ensures.read_faults
+    c.in-Ok-send.ensures.quiet
 
 pub returns-clause-faults : goal.returns-clause-faults
 returns-clause-faults g c =

@@ -29,7 +29,8 @@ returns-clause-ends g c = λ total book told stands.
     let e = c.run_lines-answer.ensures in
     let E : End → Type 0 = λ end. EndsOn g.P.Streams (by_book book) c.args.store.now new end in
     subst E (sym c.run_end.ensures)
-    (ends_told (inl book) (λ k. StandsSo (shown.IsTold new) (shown.image new) (shown.catalog new) k) (side_of g.P.Streams new) (left pages) (left (shown.pages new)) (sent pages)
+    (ends_told (inl book) (λ k. StandsSo (shown.IsTold new) (shown.image new) (shown.catalog new) k) (side_of g.P.Streams new) (left pages)
+    (left (shown.pages new)) (sent pages)
     (sent (shown.pages new)) (g.P.Streams.pieces pages) (g.P.Streams.pieces (shown.pages new)) c.run_lines-answer.result
     (e.done (inl book) (told, (total, stands))) (e.stops (inl book) (told, (total, stands))))
 
@@ -37,7 +38,8 @@ pub returns-in_default-clause-lines : goal.returns-in_default-clause-lines
 returns-in_default-clause-lines g c =
     let store = c.args.store.now in
     let pages = shown.pages store in
-    none_told (by_memory (shown.catalog store) (side_of g.P.Streams store)) (g.P.Streams.left pages) (g.P.Streams.left pages) (g.P.Streams.sent pages)
+    none_told (by_memory (shown.catalog store) (side_of g.P.Streams store)) (g.P.Streams.left pages) (g.P.Streams.left pages)
+    (g.P.Streams.sent pages)
 
 pub returns-clause-lines : goal.returns-clause-lines
 returns-clause-lines g c =
@@ -49,7 +51,8 @@ returns-clause-lines g c =
     let e = c.run_lines-answer.ensures in
     let E : End → Type 0 = λ end. EndsOn g.P.Streams (by_memory (shown.catalog old) (side_of g.P.Streams new)) old new end in
     subst E (sym c.run_end.ensures)
-    (ends_told (inr (shown.catalog old)) (λ k. StandsSo (shown.IsTold new) (shown.image new) (shown.catalog new) k) (side_of g.P.Streams new) (left pages) (left (shown.pages new)) (sent pages)
+    (ends_told (inr (shown.catalog old)) (λ k. StandsSo (shown.IsTold new) (shown.image new) (shown.catalog new) k)
+    (side_of g.P.Streams new) (left pages) (left (shown.pages new)) (sent pages)
     (sent (shown.pages new)) (g.P.Streams.pieces pages) (g.P.Streams.pieces (shown.pages new)) c.run_lines-answer.result
     (e.done (inr (shown.catalog old)) refl) (e.stops (inr (shown.catalog old)) refl))
 
@@ -59,7 +62,8 @@ returns-clause-within g c =
     let side = side_of g.P.Streams in
     let e = c.run_lines-answer.ensures in
     let W : End → Type 0 = λ end. end ≡ Done → IfSome (g.P.Streams.left pages) (λ input. length input ≤ 2 ^ 32) in
-    subst W (sym c.run_end.ensures) (came_to_end (λ end s s'. IsCause end (side s) (side s') × (end ≢ InputTooLong)) c.args.store.now c.run_lines-answer.new.from c.run_lines-answer.result (λ none. none.0) e.within e.cause)
+    subst W (sym c.run_end.ensures) (came_to_end (λ end s s'. IsCause end (side s) (side s')
+    × (end ≢ InputTooLong)) c.args.store.now c.run_lines-answer.new.from c.run_lines-answer.result (λ none. none.0) e.within e.cause)
 
 pub returns-clause-whole : goal.returns-clause-whole
 returns-clause-whole g c =
@@ -70,7 +74,8 @@ returns-clause-whole g c =
     let e = c.run_lines-answer.ensures in
     let W : End → Type 0 = λ end. end ≡ Done → IsReadUp (left (shown.pages old)) (left (shown.pages new)) in
     subst W (sym c.run_end.ensures)
-    (came_to_end (λ end s s'. IsCause end (side s) (side s') × (end ≢ InputTooLong)) old new c.run_lines-answer.result (λ none. none.0) e.whole e.cause)
+    (came_to_end (λ end s s'. IsCause end (side s) (side s')
+    × (end ≢ InputTooLong)) old new c.run_lines-answer.result (λ none. none.0) e.whole e.cause)
 
 pub returns-clause-long : goal.returns-clause-long
 returns-clause-long g c =
@@ -80,7 +85,8 @@ returns-clause-long g c =
     let e = c.run_lines-answer.ensures in
     let L : End → Type 0 = λ end. end ≡ InputTooLong → IfSome (g.P.Streams.left (shown.pages old)) (λ input. 2 ^ 32 < length input) in
     subst L (sym c.run_end.ensures)
-    (input_long (λ end s s'. IsCause end (side s) (side s') × (end ≢ InputTooLong)) old new c.run_lines-answer.result (λ never. never.1 refl) e.long e.cause)
+    (input_long (λ end s s'. IsCause end (side s) (side s')
+    × (end ≢ InputTooLong)) old new c.run_lines-answer.result (λ never. never.1 refl) e.long e.cause)
 
 pub returns-clause-cause : goal.returns-clause-cause
 returns-clause-cause g c =

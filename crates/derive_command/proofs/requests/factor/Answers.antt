@@ -14,4 +14,5 @@ returns-then-not-is_factor-clause-none c = λ factor spells small.
     let z = c.in_ok-factor.factor in
     let fits : SFits w128 z = search rules in
     let same : z ≡ factor = one_integer c.args.token.now z factor c.in_ok-factor.ensures.found spells in
-    not_small _ (unsigned_abs factor) (sym c.is_factor.ensures ∙ c.if-not-is_factor.true) (ap unsigned_abs (to_z-of_z w128 z fits ∙ same)) small
+    not_small _ (unsigned_abs factor) (sym c.is_factor.ensures
+    ∙ c.if-not-is_factor.true) (ap unsigned_abs (to_z-of_z w128 z fits ∙ same)) small

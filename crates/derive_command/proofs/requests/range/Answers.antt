@@ -6,7 +6,8 @@ use Rattle.request_lines.specs.declared.ranges.RangeWord.{RangeWord}
 use Rattle.derive_command.proofs.requests.range.Goals as goal
 
 pub returns-then-not-is_range-clause-none : goal.returns-then-not-is_range-clause-none
-returns-then-not-is_range-clause-none c = λ range spells. false≢true (sym c.if-not-is_range.true ∙ c.is_range.ensures ∙ (range_fit range c.args.token.now spells).0)
+returns-then-not-is_range-clause-none c = λ range spells. false≢true (sym c.if-not-is_range.true ∙ c.is_range.ensures
+    ∙ (range_fit range c.args.token.now spells).0)
 
 pub returns-clause-spelt : goal.returns-clause-spelt
 returns-clause-spelt c =

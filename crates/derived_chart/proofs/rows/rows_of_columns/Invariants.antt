@@ -11,7 +11,10 @@ invariant-loop-column g l = record {
   fit : (g.T.Nodes.view l.trees).fit;
   goes : g.T.TwoTrees.goes l.initial.trees l.trees;
   quiet : (g.T.Nodes.view l.trees).faults ≡ (g.T.Nodes.view l.initial.trees).faults;
-  reads : ReadsBefore 18 l.axis l.grid (border l.grid l.column) (levels (g.T.TwoTrees.count false l.initial.trees) (g.T.TwoTrees.count true l.initial.trees)) (g.T.Nodes.view l.initial.trees).reads (g.T.Nodes.view l.trees).reads;
+  reads : ReadsBefore 18 l.axis l.grid (border l.grid l.column)
+      (levels (g.T.TwoTrees.count false l.initial.trees) (g.T.TwoTrees.count true l.initial.trees)) (g.T.Nodes.view l.initial.trees).reads
+      (g.T.Nodes.view l.trees).reads;
   shown : AreShown l.grid.w l.column l.rows.items;
-  rows : (xs ys sums : List (Option ℤ)) → g.T.TwoTrees.are l.initial.trees xs ys → AreSums l.sum xs ys sums → AreColumnValues l.axis l.grid sums → AreRowsBelow l.axis l.grid sums l.column l.rows.items;
+  rows : (xs ys sums : List (Option ℤ)) → g.T.TwoTrees.are l.initial.trees xs ys → AreSums l.sum xs ys sums
+      → AreColumnValues l.axis l.grid sums → AreRowsBelow l.axis l.grid sums l.column l.rows.items;
 }

@@ -5,7 +5,8 @@ use Rattle.draw_command.specs.declared.draw_end.DrawEnd.{DrawEnd}
 use Rattle.draw_command.specs.Draws.{CoversStop}
 use Rattle.draw_command.proofs.Errors.{done_is_no_err, error_so}
 use Rattle.draw_command.proofs.DiskKept.{stays_none, stays_then}
-use Rattle.draw_command.proofs.CoverLemmas.{begun_so, covers_all, covers_begun, covers_end, cover_of, covers_stop, covers_more, covers_unopened}
+use Rattle.draw_command.proofs.CoverLemmas.{begun_so, covers_all, covers_begun, covers_end, cover_of, covers_stop, covers_more}
+use Rattle.draw_command.proofs.CoverLemmas.{covers_unopened}
 use Rattle.draw_command.proofs.covers.send_view_covers.Goals as goal
 
 pub covers-init : goal.covers-init
@@ -14,7 +15,8 @@ covers-init g c =
     record {
       view = begun.0;
       holdings = begun.1;
-      sent = covers_begun c.args.every c.args.view.now c.args.client.now c.in_ok-progress.progress.taken (g.S.Streams.sent c.args.streams.now) begun.2;
+      sent = covers_begun c.args.every c.args.view.now c.args.client.now c.in_ok-progress.progress.taken
+          (g.S.Streams.sent c.args.streams.now) begun.2;
       send_faults = refl;
       left = refl;
       read_faults = refl;
@@ -27,9 +29,16 @@ returns-in_err-send_picture-clause-stops g c =
     let inv = c.covers.invariant in
     let before = sent c.args.streams.now in
     let later = sent c.send_picture.new.streams in
-    let more : c.covers.progress.taken < length c.args.view.now.coefs = omega (arith, c.covers-test.true, c.taken.ensures, c.requires.fits.count) in
-    let draws = cover_of c.covers.progress c.args.view.now c.args.client.now c.in_ok-cover.cover inv.view inv.holdings c.in_ok-cover.ensures in
-    let stops = covers_stop c.args.every c.args.view.now c.args.client.now c.covers.progress.taken c.in_ok-cover.cover before (sent c.covers.streams) later c.in_err-send_picture.field-0.0 more draws inv.sent c.in_err-send_picture.ensures.stops in
+    let more : c.covers.progress.taken < length c.args.view.now.coefs = omega (
+      arith,
+      c.covers-test.true,
+      c.taken.ensures,
+      c.requires.fits.count,
+    ) in
+    let draws = cover_of c.covers.progress c.args.view.now c.args.client.now c.in_ok-cover.cover inv.view inv.holdings c.in_ok-cover.ensures
+    in
+    let stops = covers_stop c.args.every c.args.view.now c.args.client.now c.covers.progress.taken c.in_ok-cover.cover before
+    (sent c.covers.streams) later c.in_err-send_picture.field-0.0 more draws inv.sent c.in_err-send_picture.ensures.stops in
     let E : DrawEnd → Type 0 = λ x. CoversStop (Some c.args.every) (AView c.args.view.now) c.args.client.now before later x in
     error_so _ E c.from_residual-in_err-send_picture.result c.from_residual-in_err-send_picture.ensures.1 (λ x is. subst E (sym is) stops)
 
@@ -42,12 +51,19 @@ covers-preserved g c =
     let before = sent c.args.streams.now in
     let later = sent c.send_picture.new.streams in
     let next = c.advance_by.ensures in
-    let more : c.covers.progress.taken < length c.args.view.now.coefs = omega (arith, c.covers-test.true, c.taken.ensures, c.requires.fits.count) in
-    let draws = cover_of c.covers.progress c.args.view.now c.args.client.now c.in_ok-cover.cover inv.view inv.holdings c.in_ok-cover.ensures in
+    let more : c.covers.progress.taken < length c.args.view.now.coefs = omega (
+      arith,
+      c.covers-test.true,
+      c.taken.ensures,
+      c.requires.fits.count,
+    ) in
+    let draws = cover_of c.covers.progress c.args.view.now c.args.client.now c.in_ok-cover.cover inv.view inv.holdings c.in_ok-cover.ensures
+    in
     record {
       view = next.view ∙ inv.view;
       holdings = next.holdings ∙ inv.holdings;
-      sent = covers_more c.args.every c.args.view.now c.args.client.now c.covers.progress.taken c.advance_by.new.self.taken c.in_ok-cover.cover before (sent c.covers.streams) later
+      sent = covers_more c.args.every c.args.view.now c.args.client.now c.covers.progress.taken c.advance_by.new.self.taken
+          c.in_ok-cover.cover before (sent c.covers.streams) later
           more draws made.done (omega (arith, next.taken, ap (λ v. length v.coefs) inv.view)) inv.sent;
       send_faults = made.quiet_sends (done_is_no_err _ _) ∙ inv.send_faults;
       left = made.left ∙ inv.left;
@@ -64,7 +80,8 @@ returns-in_err-cover-clause-disk g c = c.covers.invariant.disk
 pub returns-in_err-send_picture-clause-disk : goal.returns-in_err-send_picture-clause-disk
 returns-in_err-send_picture-clause-disk g c =
     let view = g.S.Disk.view in
-    stays_then (view c.args.streams.now) (view c.covers.streams) (view c.send_picture.new.streams) c.covers.invariant.disk c.in_err-send_picture.ensures.disk
+    stays_then (view c.args.streams.now) (view c.covers.streams)
+    (view c.send_picture.new.streams) c.covers.invariant.disk c.in_err-send_picture.ensures.disk
 
 pub returns-clause-disk : goal.returns-clause-disk
 returns-clause-disk g c = c.covers.invariant.disk
@@ -73,13 +90,15 @@ pub returns-in_err-progress-clause-stops : goal.returns-in_err-progress-clause-s
 returns-in_err-progress-clause-stops g c =
     let failed = c.in_err-progress.ensures in
     error_so _ _ c.from_residual.result c.from_residual.ensures.1
-    (λ e is. covers_unopened c.args.every c.args.view.now c.args.client.now (g.S.Streams.sent c.args.streams.now) c.in_err-progress.field-0.0 e failed.refused failed.not_open is)
+    (λ e is. covers_unopened c.args.every c.args.view.now c.args.client.now
+    (g.S.Streams.sent c.args.streams.now) c.in_err-progress.field-0.0 e failed.refused failed.not_open is)
 
 pub returns-in_err-cover-clause-stops : goal.returns-in_err-cover-clause-stops
 returns-in_err-cover-clause-stops g c =
     let sent = g.S.Streams.sent in
     error_so _ _ c.from_residual-in_err-cover.result c.from_residual-in_err-cover.ensures.1
-    (λ e is. covers_end c.args.every c.args.view.now c.args.client.now c.covers.progress.taken (sent c.args.streams.now) (sent c.covers.streams) e is c.covers.invariant.sent)
+    (λ e is. covers_end c.args.every c.args.view.now c.args.client.now c.covers.progress.taken (sent c.args.streams.now)
+    (sent c.covers.streams) e is c.covers.invariant.sent)
 
 pub returns-clause-done : goal.returns-clause-done
 returns-clause-done g c =

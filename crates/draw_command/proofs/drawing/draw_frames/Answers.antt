@@ -26,9 +26,11 @@ frames-preserved-in_ok-draw_frame-in-Some g c =
     let view = g.S.Disk.view in
     let inv = c.frames.invariant in
     let made = c.in_ok-draw_frame-in-Some.ensures in
-    let takes = takes_so c.frames.decoder c.next.new.self c.in_ok-frame.field-0 c.in-Some.frame c.in_ok-frame.ensures.answers c.in-Some.is in
+    let takes = takes_so c.frames.decoder c.next.new.self c.in_ok-frame.field-0 c.in-Some.frame c.in_ok-frame.ensures.answers c.in-Some.is
+    in
     record {
-      drawn = drawn_frame c.args.every c.args.decoder.now c.frames.decoder c.next.new.self c.in-Some.frame c.args.client.now c.frames.client c.draw_frame.new.client
+      drawn = drawn_frame c.args.every c.args.decoder.now c.frames.decoder c.next.new.self c.in-Some.frame c.args.client.now c.frames.client
+          c.draw_frame.new.client
           (sent c.args.streams.now) (sent c.frames.streams) (sent c.draw_frame.new.streams) takes made.done inv.drawn;
       send_faults = made.quiet_sends (done_is_no_err _ _) ∙ inv.send_faults;
       left = made.left ∙ inv.left;
@@ -47,9 +49,11 @@ frames-preserved-in_ok-draw_frame-in-Some-2 g c =
     let view = g.S.Disk.view in
     let inv = c.frames.invariant in
     let made = c.in_ok-draw_frame-in-Some.ensures in
-    let takes = takes_so c.frames.decoder c.next.new.self c.in_ok-frame.field-0 c.in-Some.frame c.in_ok-frame.ensures.answers c.in-Some.is in
+    let takes = takes_so c.frames.decoder c.next.new.self c.in_ok-frame.field-0 c.in-Some.frame c.in_ok-frame.ensures.answers c.in-Some.is
+    in
     record {
-      drawn = drawn_frame c.args.every c.args.decoder.now c.frames.decoder c.next.new.self c.in-Some.frame c.args.client.now c.frames.client c.draw_frame.new.client
+      drawn = drawn_frame c.args.every c.args.decoder.now c.frames.decoder c.next.new.self c.in-Some.frame c.args.client.now c.frames.client
+          c.draw_frame.new.client
           (sent c.args.streams.now) (sent c.frames.streams) (sent c.draw_frame.new.streams) takes made.done inv.drawn;
       send_faults = made.quiet_sends (done_is_no_err _ _) ∙ inv.send_faults;
       left = made.left ∙ inv.left;
@@ -63,9 +67,11 @@ frames-preserved-in_ok-draw_frame-in-Some-3 g c =
     let view = g.S.Disk.view in
     let inv = c.frames.invariant in
     let made = c.in_ok-draw_frame-in-Some.ensures in
-    let takes = takes_so c.frames.decoder c.next.new.self c.in_ok-frame.field-0 c.in-Some.frame c.in_ok-frame.ensures.answers c.in-Some.is in
+    let takes = takes_so c.frames.decoder c.next.new.self c.in_ok-frame.field-0 c.in-Some.frame c.in_ok-frame.ensures.answers c.in-Some.is
+    in
     record {
-      drawn = drawn_frame c.args.every c.args.decoder.now c.frames.decoder c.next.new.self c.in-Some.frame c.args.client.now c.frames.client c.draw_frame.new.client
+      drawn = drawn_frame c.args.every c.args.decoder.now c.frames.decoder c.next.new.self c.in-Some.frame c.args.client.now c.frames.client
+          c.draw_frame.new.client
           (sent c.args.streams.now) (sent c.frames.streams) (sent c.draw_frame.new.streams) takes made.done inv.drawn;
       send_faults = made.quiet_sends (done_is_no_err _ _) ∙ inv.send_faults;
       left = made.left ∙ inv.left;
@@ -79,9 +85,11 @@ frames-preserved-in_ok-draw_frame-in-Some-4 g c =
     let view = g.S.Disk.view in
     let inv = c.frames.invariant in
     let made = c.in_ok-draw_frame-in-Some.ensures in
-    let takes = takes_so c.frames.decoder c.next.new.self c.in_ok-frame.field-0 c.in-Some.frame c.in_ok-frame.ensures.answers c.in-Some.is in
+    let takes = takes_so c.frames.decoder c.next.new.self c.in_ok-frame.field-0 c.in-Some.frame c.in_ok-frame.ensures.answers c.in-Some.is
+    in
     record {
-      drawn = drawn_frame c.args.every c.args.decoder.now c.frames.decoder c.next.new.self c.in-Some.frame c.args.client.now c.frames.client c.draw_frame.new.client
+      drawn = drawn_frame c.args.every c.args.decoder.now c.frames.decoder c.next.new.self c.in-Some.frame c.args.client.now c.frames.client
+          c.draw_frame.new.client
           (sent c.args.streams.now) (sent c.frames.streams) (sent c.draw_frame.new.streams) takes made.done inv.drawn;
       send_faults = made.quiet_sends (done_is_no_err _ _) ∙ inv.send_faults;
       left = made.left ∙ inv.left;
@@ -95,9 +103,11 @@ frames-preserved-in_ok-draw_frame-in-Some-5 g c =
     let view = g.S.Disk.view in
     let inv = c.frames.invariant in
     let made = c.in_ok-draw_frame-in-Some.ensures in
-    let takes = takes_so c.frames.decoder c.next.new.self c.in_ok-frame.field-0 c.in-Some.frame c.in_ok-frame.ensures.answers c.in-Some.is in
+    let takes = takes_so c.frames.decoder c.next.new.self c.in_ok-frame.field-0 c.in-Some.frame c.in_ok-frame.ensures.answers c.in-Some.is
+    in
     record {
-      drawn = drawn_frame c.args.every c.args.decoder.now c.frames.decoder c.next.new.self c.in-Some.frame c.args.client.now c.frames.client c.draw_frame.new.client
+      drawn = drawn_frame c.args.every c.args.decoder.now c.frames.decoder c.next.new.self c.in-Some.frame c.args.client.now c.frames.client
+          c.draw_frame.new.client
           (sent c.args.streams.now) (sent c.frames.streams) (sent c.draw_frame.new.streams) takes made.done inv.drawn;
       send_faults = made.quiet_sends (done_is_no_err _ _) ∙ inv.send_faults;
       left = made.left ∙ inv.left;
@@ -116,9 +126,11 @@ frames-preserved g c =
     let view = g.S.Disk.view in
     let inv = c.frames.invariant in
     let made = c.in_ok-draw_frame-in-Some.ensures in
-    let takes = takes_so c.frames.decoder c.next.new.self c.in_ok-frame.field-0 c.in-Some.frame c.in_ok-frame.ensures.answers c.in-Some.is in
+    let takes = takes_so c.frames.decoder c.next.new.self c.in_ok-frame.field-0 c.in-Some.frame c.in_ok-frame.ensures.answers c.in-Some.is
+    in
     record {
-      drawn = drawn_frame c.args.every c.args.decoder.now c.frames.decoder c.next.new.self c.in-Some.frame c.args.client.now c.frames.client c.draw_frame.new.client
+      drawn = drawn_frame c.args.every c.args.decoder.now c.frames.decoder c.next.new.self c.in-Some.frame c.args.client.now c.frames.client
+          c.draw_frame.new.client
           (sent c.args.streams.now) (sent c.frames.streams) (sent c.draw_frame.new.streams) takes made.done inv.drawn;
       send_faults = made.quiet_sends (done_is_no_err _ _) ∙ inv.send_faults;
       left = made.left ∙ inv.left;
@@ -135,15 +147,19 @@ returns-in_err-frame-clause-disk g c = c.frames.invariant.disk
 pub returns-in_err-draw_frame-in-Some-clause-disk : goal.returns-in_err-draw_frame-in-Some-clause-disk
 returns-in_err-draw_frame-in-Some-clause-disk g c =
     let view = g.S.Disk.view in
-    stays_then (view c.args.streams.now) (view c.frames.streams) (view c.draw_frame.new.streams) c.frames.invariant.disk c.in_err-draw_frame-in-Some.ensures.disk
+    stays_then (view c.args.streams.now) (view c.frames.streams)
+    (view c.draw_frame.new.streams) c.frames.invariant.disk c.in_err-draw_frame-in-Some.ensures.disk
 
 pub returns-in_err-draw_frame-in-Some-clause-stops : goal.returns-in_err-draw_frame-in-Some-clause-stops
 returns-in_err-draw_frame-in-Some-clause-stops g c =
     let sent = g.S.Streams.sent in
     let before = sent c.args.streams.now in
     let later = sent c.draw_frame.new.streams in
-    let takes = takes_so c.frames.decoder c.next.new.self c.in_ok-frame.field-0 c.in-Some.frame c.in_ok-frame.ensures.answers c.in-Some.is in
-    let stops = frame_stops c.args.every c.args.decoder.now c.frames.decoder c.next.new.self c.in-Some.frame c.args.client.now c.frames.client before (sent c.frames.streams) later
+    let takes = takes_so c.frames.decoder c.next.new.self c.in_ok-frame.field-0 c.in-Some.frame c.in_ok-frame.ensures.answers c.in-Some.is
+    in
+    let stops = frame_stops c.args.every c.args.decoder.now c.frames.decoder c.next.new.self c.in-Some.frame c.args.client.now
+    c.frames.client before (sent c.frames.streams) later
     c.in_err-draw_frame-in-Some.field-0.0 takes c.in_err-draw_frame-in-Some.ensures.stops c.frames.invariant.drawn in
     let E : DrawEnd → Type 0 = λ x. FramesStop c.args.every c.args.decoder.now c.args.client.now before later x in
-    error_so _ E c.from_residual-in_err-draw_frame-in-Some.result c.from_residual-in_err-draw_frame-in-Some.ensures.1 (λ x is. subst E (sym is) stops)
+    error_so _ E c.from_residual-in_err-draw_frame-in-Some.result c.from_residual-in_err-draw_frame-in-Some.ensures.1
+    (λ x is. subst E (sym is) stops)

@@ -6,7 +6,8 @@ use Rattle.draw_command.proofs.drawing.draw_frames.Given as goal
 -- the frames given so far are drawn
 abbrev pub invariant-frames : goal.invariant-frames
 invariant-frames g l = record {
-  drawn : DrawsMore l.every l.initial.decoder l.decoder l.initial.client l.client (g.S.Streams.sent l.initial.streams) (g.S.Streams.sent l.streams);
+  drawn : DrawsMore l.every l.initial.decoder l.decoder l.initial.client l.client (g.S.Streams.sent l.initial.streams)
+      (g.S.Streams.sent l.streams);
   send_faults : g.S.Streams.send_faults l.streams ≡ g.S.Streams.send_faults l.initial.streams;
   left : g.S.Streams.left l.streams ≡ g.S.Streams.left l.initial.streams;
   read_faults : g.S.Streams.read_faults l.streams ≡ g.S.Streams.read_faults l.initial.streams;

@@ -11,7 +11,8 @@ invariant-pieces g l = record {
   within : l.taken ≤ 2 ^ 32;
   counted : l.taken ≡ l.decoder.given + length l.decoder.rest;
   unended : IsPartial l.decoder;
-  drawn : DrawnOf l.every (g.S.Streams.left l.initial.streams) (g.S.Streams.left l.streams) l.decoder l.client (g.S.Streams.sent l.initial.streams) (g.S.Streams.sent l.streams);
+  drawn : DrawnOf l.every (g.S.Streams.left l.initial.streams) (g.S.Streams.left l.streams) l.decoder l.client
+      (g.S.Streams.sent l.initial.streams) (g.S.Streams.sent l.streams);
   read_faults : g.S.Streams.read_faults l.streams ≡ g.S.Streams.read_faults l.initial.streams;
   send_faults : g.S.Streams.send_faults l.streams ≡ g.S.Streams.send_faults l.initial.streams;
   disk : StaysAlone (g.S.Disk.view l.initial.streams) (g.S.Disk.view l.streams);

@@ -22,7 +22,9 @@ laws c = record {
 }
 
 pub returns-clause-draws : goal.returns-clause-draws
-returns-clause-draws c line frame old new holdings sound replied mirrors = (follows (laws c) line frame old new holdings sound replied mirrors).0
+returns-clause-draws c line frame old new holdings sound replied
+    mirrors = (follows (laws c) line frame old new holdings sound replied mirrors).0
 
 pub returns-clause-accepts : goal.returns-clause-accepts
-returns-clause-accepts c line frame old new holdings sound replied mirrors = (follows (laws c) line frame old new holdings sound replied mirrors).1
+returns-clause-accepts c line frame old new holdings sound replied
+    mirrors = (follows (laws c) line frame old new holdings sound replied mirrors).1

@@ -26,4 +26,5 @@ pub returns-clause-lines : goal.returns-clause-lines
 returns-clause-lines c n line frame old new sound replied = own_follows (laws c) n frame old new sound (step-of line frame old new replied)
 
 pub returns-clause-requests : goal.returns-clause-requests
-returns-clause-requests c n request frame old new sound replied = own_follows (laws c) n frame old new sound (replies request frame old new replied)
+returns-clause-requests c n request frame old new sound replied = own_follows (laws c) n frame old new sound
+    (replies request frame old new replied)

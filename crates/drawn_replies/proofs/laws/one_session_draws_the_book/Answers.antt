@@ -22,4 +22,5 @@ laws c = record {
 }
 
 pub returns : goal.returns
-returns c n lines frames drawings old new holdings now sound all m a = follows_own (laws c) n lines frames drawings old new holdings now sound all m a
+returns c n lines frames drawings old new holdings now sound all m a = follows_own
+    (laws c) n lines frames drawings old new holdings now sound all m a

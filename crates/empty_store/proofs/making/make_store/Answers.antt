@@ -22,7 +22,8 @@ returns-in-Ok-clause-moments g c = λ honest.
     let made = given c.make_pages.result in
     let Q : g.row.D.Denot → Type 0 = λ disk. LeavesNew (page_count old.size) old (view disk) in
     subst Q (given_of c.make_pages.result c.on_disk.result c.on_disk.ensures.disk)
-    (leaves_made (page_count old.size) mid.count made.count mid.sound made.sound old (view mid.disk) (view made.disk) opened.count c.make_pages.ensures.size honest opened.moments (opened.pages honest)
+    (leaves_made (page_count old.size) mid.count made.count mid.sound made.sound old (view mid.disk)
+    (view made.disk) opened.count c.make_pages.ensures.size honest opened.moments (opened.pages honest)
     (c.make_pages.ensures.makes (opened.moves.honest honest)) c.make_pages.ensures.goes_on)
 
 pub returns-in-BadDirectory-clause-moments : goal.returns-in-BadDirectory-clause-moments
@@ -34,13 +35,15 @@ returns-in-BadDirectory-clause-moments g c = λ honest.
     let L : OpenCause → Type 0 = λ cause. Leaves cause old mid in
     let left : LeftBroken old mid = subst L c.in-BadDirectory.is c.in-Err.ensures.left in
     let N : ℕ → Type 0 = λ n. LeavesNew (page_count n) mid new in
-    leaves_back (page_count old.size) 2 1 0 old mid left.moves new (subst N left.moves.size (c.make_anew.ensures.moments (left.moves.honest honest)))
+    leaves_back (page_count old.size) 2 1 0 old mid left.moves new
+    (subst N left.moves.size (c.make_anew.ensures.moments (left.moves.honest honest)))
 
 pub returns-in-Ok-clause-no_memory : goal.returns-in-Ok-clause-no_memory
 returns-in-Ok-clause-no_memory g c =
     let old = g.D.Disk.view c.args.disk in
     let opened = c.in-Ok.ensures in
-    kept_lowered old c.in-Ok.pages c.make_pages.result c.on_disk.result c.on_disk.ensures.disk opened.count c.make_pages.ensures.size opened.moves.honest opened.pages c.make_pages.ensures.no_memory
+    kept_lowered old c.in-Ok.pages c.make_pages.result c.on_disk.result c.on_disk.ensures.disk opened.count c.make_pages.ensures.size
+    opened.moves.honest opened.pages c.make_pages.ensures.no_memory
 
 pub returns-in-BadDirectory-clause-no_memory : goal.returns-in-BadDirectory-clause-no_memory
 returns-in-BadDirectory-clause-no_memory g c =
@@ -49,7 +52,8 @@ returns-in-BadDirectory-clause-no_memory g c =
     let mid = view c.in-Err.field-0.value in
     let L : OpenCause → Type 0 = λ cause. Leaves cause old mid in
     let left : LeftBroken old mid = subst L c.in-BadDirectory.is c.in-Err.ensures.left in
-    IfErr-weaker c.make_anew.result _ _ (λ back kept none. kept_back 2 1 0 old mid (view back.value) left.moves (kept none)) c.make_anew.ensures.no_memory
+    IfErr-weaker c.make_anew.result _ _ (λ back kept none. kept_back 2 1 0 old mid (view back.value) left.moves (kept none))
+    c.make_anew.ensures.no_memory
 
 pub returns-in-Ok-clause-kept : goal.returns-in-Ok-clause-kept
 returns-in-Ok-clause-kept g c = λ honest there.
@@ -63,7 +67,8 @@ returns-in-Ok-clause-kept g c = λ honest there.
     let I : Image → Type 0 = λ pages. HasMagic (current pages 0) in
     let magic = subst I (sym (opened.pages honest)) (subst M (sym opened.count) there.magic) in
     subst Q (given_of c.make_pages.result c.on_disk.result c.on_disk.ensures.disk)
-    (kept_made (page_count old.size) mid.count made.count mid.sound made.sound old (view mid.disk) (view made.disk) opened.count c.make_pages.ensures.size honest opened.moments (opened.pages honest)
+    (kept_made (page_count old.size) mid.count made.count mid.sound made.sound old (view mid.disk)
+    (view made.disk) opened.count c.make_pages.ensures.size honest opened.moments (opened.pages honest)
     (c.make_pages.ensures.kept (opened.moves.honest honest) magic) c.make_pages.ensures.goes_on)
 
 pub returns-in-BadDirectory-clause-kept : goal.returns-in-BadDirectory-clause-kept
@@ -75,7 +80,8 @@ returns-in-BadDirectory-clause-kept g c = λ honest there.
 pub returns-in-Ok-clause-honest : goal.returns-in-Ok-clause-honest
 returns-in-Ok-clause-honest g c = λ honest.
     let Q : g.row.D.Denot → Type 0 = λ disk. Honest (g.D.Disk.view disk) in
-    subst Q (given_of c.make_pages.result c.on_disk.result c.on_disk.ensures.disk) (c.make_pages.ensures.told (c.in-Ok.ensures.moves.honest honest))
+    subst Q (given_of c.make_pages.result c.on_disk.result c.on_disk.ensures.disk)
+    (c.make_pages.ensures.told (c.in-Ok.ensures.moves.honest honest))
 
 pub returns-in-TooSmall : goal.returns-in-TooSmall
 returns-in-TooSmall g c = grind arith

@@ -12,7 +12,8 @@ use Rattle.empty_store.proofs.pages.make_pages.Goals as goal
 
 pub returns-in-Ok-clause-cause : goal.returns-in-Ok-clause-cause
 returns-in-Ok-clause-cause g c = λ told.
-    magic_current (g.P.Pages.view c.args.pages).image (subst HasMagic (sym (c.in-Ok.ensures.superblock told).spelled) (marked (shown.numbers c.in-Ok.space)))
+    magic_current (g.P.Pages.view c.args.pages).image
+    (subst HasMagic (sym (c.in-Ok.ensures.superblock told).spelled) (marked (shown.numbers c.in-Ok.space)))
 
 -- page 0 lacks the magic of version 2
 pub returns-in-NotAStore-clause-fresh : goal.returns-in-NotAStore-clause-fresh
@@ -24,7 +25,8 @@ returns-in-NotAStore-clause-fresh g c =
     let mid = c.in-Err.field-0.value in
     let U : SpaceError → Type 0 = λ cause. Unopened cause (told old) (view old) (view mid) in
     IfOk-weaker c.make_new.result _ _ (λ made fresh is magic.
-    fresh (e.reads.told is) (lacks_both (told old) (told mid) (view old) (view mid) e.reads (subst U c.in-NotAStore.is e.cause) is magic)) c.make_new.ensures.fresh
+    fresh (e.reads.told is) (lacks_both (told old) (told mid) (view old) (view mid) e.reads (subst U c.in-NotAStore.is e.cause) is magic))
+    c.make_new.ensures.fresh
 
 pub returns-in-NotAStore-clause-kept : goal.returns-in-NotAStore-clause-kept
 returns-in-NotAStore-clause-kept g c = λ is magic.
@@ -34,8 +36,10 @@ returns-in-NotAStore-clause-kept g c = λ is magic.
     let old = c.args.pages in
     let mid = c.in-Err.field-0.value in
     let U : SpaceError → Type 0 = λ cause. Unopened cause (told old) (view old) (view mid) in
-    stays_then (told old) (told mid) (view old) (view mid) (view (given c.make_new.result)) is (g.met.P.Pages.rests old c.requires.sound) e.reads
-    (c.make_new.ensures.kept (e.reads.told is) (lacks_both (told old) (told mid) (view old) (view mid) e.reads (subst U c.in-NotAStore.is e.cause) is magic))
+    stays_then (told old) (told mid) (view old) (view mid) (view (given c.make_new.result)) is
+    (g.met.P.Pages.rests old c.requires.sound) e.reads
+    (c.make_new.ensures.kept (e.reads.told is) (lacks_both (told old) (told mid) (view old) (view mid) e.reads
+    (subst U c.in-NotAStore.is e.cause) is magic))
 
 pub returns-in-Damaged-clause-cause : goal.returns-in-Damaged-clause-cause
 returns-in-Damaged-clause-cause g c = λ is.

@@ -11,7 +11,8 @@ use Rattle.filter_scan.proofs.ends.+end_value.Goals as goal
 
 pub returns-then-key-eq0-clause-list : goal.returns-then-key-eq0-clause-list
 returns-then-key-eq0-clause-list g t c = λ list agrees.
-    end_here c.args.side (g.N.Nodes.view c.args.nodes.now) list c.args.key c.args.span agrees c.requires.reached (omega (arith, c.if-key-eq0.true))
+    end_here c.args.side (g.N.Nodes.view c.args.nodes.now) list c.args.key c.args.span agrees c.requires.reached
+    (omega (arith, c.if-key-eq0.true))
 
 pub end_half-requires-clause-fits : goal.end_half-requires-clause-fits
 end_half-requires-clause-fits g t c = key_small (g.N.Nodes.view c.args.nodes.now).slots c.args.key c.requires.reached.key
@@ -27,9 +28,11 @@ end_value-requires g t c κs within =
         (
           c.in_ok-left.ensures.fit,
           (
-            half_reached c.args.side (g.N.Nodes.view c.args.nodes.now) (g.N.Nodes.view c.ask.new.nodes) c.args.key c.in_ok-left.left c.in_ok-left.right c.end_half.result same
+            half_reached c.args.side (g.N.Nodes.view c.args.nodes.now)
+                (g.N.Nodes.view c.ask.new.nodes) c.args.key c.in_ok-left.left c.in_ok-left.right c.end_half.result same
                 c.in_ok-left.ensures.left c.in_ok-left.ensures.right c.end_half.ensures.half,
-            half_follows c.args.side (g.N.Nodes.view c.ask.new.nodes) c.args.key c.in_ok-left.left c.in_ok-left.right c.end_half.result low c.in_ok-left.ensures.asked c.end_half.ensures.half,
+            half_follows c.args.side (g.N.Nodes.view c.ask.new.nodes) c.args.key c.in_ok-left.left c.in_ok-left.right c.end_half.result low
+                c.in_ok-left.ensures.asked c.end_half.ensures.half,
           ),
         ),
       ),
@@ -42,20 +45,23 @@ returns-clause-list g t c = λ list agrees.
     IfOk-weaker c.end_value.result
     (IsEndValue c.args.side list (first_slot c.end_half.result.0) (end_slot c.end_half.result.0))
     (IsEndValue c.args.side list (first_slot c.args.key) (end_slot c.args.key))
-    (λ v. end_step c.args.side (g.N.Nodes.view c.args.nodes.now) list c.args.key c.in_ok-left.left c.in_ok-left.right c.end_half.result v (omega (arith, c.if-key-eq0.false)) agrees
+    (λ v. end_step c.args.side (g.N.Nodes.view c.args.nodes.now) list c.args.key c.in_ok-left.left c.in_ok-left.right c.end_half.result v
+    (omega (arith, c.if-key-eq0.false)) agrees
     c.in_ok-left.ensures.left c.in_ok-left.ensures.right c.end_half.ensures.half)
     (c.end_value.ensures.list list (still_agrees (g.N.Nodes.view c.args.nodes.now) (g.N.Nodes.view c.ask.new.nodes) list same agrees))
 
 pub returns-clause-among : goal.returns-clause-among
 returns-clause-among g t c =
     IfOk-weaker c.end_value.result (IsAmong c.end_half.result.1) (IsAmong c.args.span)
-    (λ v. among_step c.args.side c.args.key c.in_ok-left.left c.in_ok-left.right c.end_half.result c.args.span v c.in_ok-left.ensures.whole c.end_half.ensures.half)
+    (λ v. among_step c.args.side c.args.key c.in_ok-left.left c.in_ok-left.right c.end_half.result c.args.span v c.in_ok-left.ensures.whole
+    c.end_half.ensures.half)
     c.end_value.ensures.among
 
 pub returns-clause-below : goal.returns-clause-below
 returns-clause-below g t c =
     on_ok_weaker c.end_value.result
-    (half_below c.args.side c.args.key c.in_ok-left.left c.in_ok-left.right c.end_half.result (g.N.Nodes.view c.args.nodes.now).asked (g.N.Nodes.view c.ask.new.nodes).asked
+    (half_below c.args.side c.args.key c.in_ok-left.left c.in_ok-left.right c.end_half.result (g.N.Nodes.view c.args.nodes.now).asked
+    (g.N.Nodes.view c.ask.new.nodes).asked
     (g.N.Nodes.view c.end_value.new.nodes).asked (omega (arith, c.if-key-eq0.false)) c.end_half.ensures.half c.in_ok-left.ensures.asked)
     c.end_value.ensures.below
 

@@ -11,8 +11,10 @@ use Rattle.filter_scan.proofs.rows.m4_rows.Goals as goal
 pub returns-clause-rows : goal.returns-clause-rows
 returns-clause-rows g c = λ list agrees.
     let P : List Row → Type 0 = λ rows.
-    AreRowsOf c.of-scan.result.grid (sample_points (filter (passes c.args.plan.now.filter) (stored_in c.of-scan.result.axis (c.of-scan.result.from, c.of-scan.result.end) list))) rows in
-    plan_rows c.of-scan.result c.args.axis c.args.plan.now list c.from_vec.result c.of-scan.ensures.axis c.of-scan.ensures.grid c.of-scan.ensures.from c.of-scan.ensures.end
+    AreRowsOf c.of-scan.result.grid (sample_points (filter (passes c.args.plan.now.filter)
+    (stored_in c.of-scan.result.axis (c.of-scan.result.from, c.of-scan.result.end) list))) rows in
+    plan_rows c.of-scan.result c.args.axis c.args.plan.now list c.from_vec.result c.of-scan.ensures.axis c.of-scan.ensures.grid
+    c.of-scan.ensures.from c.of-scan.ensures.end
     (subst P (sym c.from_vec.ensures) (c.in_ok-rows.ensures.found.of_list list agrees))
 
 pub returns-clause-rising : goal.returns-clause-rising

@@ -26,4 +26,5 @@ returns-clause-shown g c =
 pub returns-clause-window : goal.returns-clause-window
 returns-clause-window g c =
     let plan = c.in_ok-plan.plan in
-    window_of c.args.query.now.axis plan.grid c.args.query.now.grid _ _ c.in_ok-plan.ensures.grid (window_reads c.args.query.now.axis plan _ _ c.in_ok-plan.ensures.scan c.m4_rows.ensures.reads)
+    window_of c.args.query.now.axis plan.grid c.args.query.now.grid _ _ c.in_ok-plan.ensures.grid
+    (window_reads c.args.query.now.axis plan _ _ c.in_ok-plan.ensures.scan c.m4_rows.ensures.reads)

@@ -9,8 +9,10 @@ use Rattle.filter_scan.proofs.walking.fill_slot.Goals as goal
 pub returns-in-Some-clause-shown : goal.returns-in-Some-clause-shown
 returns-in-Some-clause-shown c =
     let P : ℤ → Type 0 = λ z. c.in-Some.row ≡ row_of c.in-Some.row.column z in
-    shown_more c.in-Some.row.column c.args.table.now c.add_row.new.table c.in-Some.row (omega (arith, c.requires.sized, c.in-Some.ensures.2))
-    (slot_shown c.in-Some.row c.args.value (subst P (to_z-of_z w64 c.args.value c.ranges.value) c.in-Some.ensures.1) c.requires.value) c.add_row.ensures
+    shown_more c.in-Some.row.column c.args.table.now c.add_row.new.table c.in-Some.row
+    (omega (arith, c.requires.sized, c.in-Some.ensures.2))
+    (slot_shown c.in-Some.row c.args.value (subst P (to_z-of_z w64 c.args.value c.ranges.value) c.in-Some.ensures.1) c.requires.value)
+    c.add_row.ensures
 
 pub returns-in_default-clause-slot : goal.returns-in_default-clause-slot
 returns-in_default-clause-slot c =

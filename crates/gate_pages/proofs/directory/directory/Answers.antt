@@ -5,4 +5,9 @@ use Rattle.gate_pages.proofs.directory.directory.Goals as goal
 
 pub returns-clause-few : goal.returns-clause-few
 returns-clause-few c =
-    omega (arith, ap length c.numbers_from-numbers.ensures.numbers, length-map-range_with_len (λ (i : ℕ). number_at c.args.block.now (12 + 4 * i)) 0 c.number_at-many.result, c.if-many-gt-MOST.false)
+    omega (
+      arith,
+      ap length c.numbers_from-numbers.ensures.numbers,
+      length-map-range_with_len (λ (i : ℕ). number_at c.args.block.now (12 + 4 * i)) 0 c.number_at-many.result,
+      c.if-many-gt-MOST.false,
+    )

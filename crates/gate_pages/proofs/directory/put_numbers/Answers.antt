@@ -17,11 +17,13 @@ loop-i-preserved c =
     let put = c.put_number.ensures in
     let below : i < length batch = omega (arith, c.loop-i-test.true, c.len-i-end.ensures.len) in
     let within : 12 + 4 * i + 4 ≤ length block = omega (arith, c.loop-i.invariant.whole, c.loop-i-test.true, c.len-i-end.ensures.most) in
-    let there : get_or (numbers batch) i 0 ≡ n = get_or-map (λ (entry : Entry). entry.0) batch i (0, []) 0 below ∙ sym c.number-number.ensures in
+    let there : get_or (numbers batch) i 0 ≡ n = get_or-map (λ (entry : Entry). entry.0) batch i (0, []) 0 below
+    ∙ sym c.number-number.ensures in
     record {
       whole = ap length put ∙ length-replaced block (12 + 4 * i) (to_be_bytes w32 n) within ∙ c.loop-i.invariant.whole;
       so_far = ap (λ l. numbers_in l (i + 1)) put
-          ∙ numbers_step block i n (numbers batch) within c.number-number.type_inv (omega (arith, below, length-map batch (λ (entry : Entry). entry.0))) there c.loop-i.invariant.so_far;
+          ∙ numbers_step block i n (numbers batch) within c.number-number.type_inv
+          (omega (arith, below, length-map batch (λ (entry : Entry). entry.0))) there c.loop-i.invariant.so_far;
       front = λ at size low. ap (λ l. take size (drop at l)) put
           ∙ replaced_before block (12 + 4 * i) (to_be_bytes w32 n) at size (omega (arith, within)) (omega (arith, low))
           ∙ c.loop-i.invariant.front at size low;

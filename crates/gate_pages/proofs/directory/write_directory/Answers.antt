@@ -17,7 +17,8 @@ returns c count below =
     let counted = c.put_number.new.block in
     let done = c.put_numbers.new.block in
     let filled_len : IsBlock filled = omega (arith, c.fill.ensures.len, c.requires.whole) in
-    let marked_len : IsBlock marked = ap length c.put_bytes.ensures ∙ length-replaced filled 0 magic (omega (arith, filled_len)) ∙ filled_len in
+    let marked_len : IsBlock marked = ap length c.put_bytes.ensures ∙ length-replaced filled 0 magic (omega (arith, filled_len))
+    ∙ filled_len in
     let front : take 8 done ≡ magic =
     c.put_numbers.ensures.front 0 8 (omega arith)
     ∙ ap (λ l. take 8 (drop 0 l)) c.put_number.ensures
@@ -30,4 +31,5 @@ returns c count below =
     ∙ ap (λ l. number_at l 8) c.put_number.ensures
     ∙ number_there marked 8 many (omega (arith, marked_len)) small in
     let same : many ≡ length batch = c.len.ensures.len in
-    keeps count (length batch) done (numbers batch) front (told ∙ same) (omega (arith, same, c.len.ensures.most)) c.put_numbers.ensures.numbers below c.args.batch.now.distinct
+    keeps count (length batch) done (numbers batch) front (told
+    ∙ same) (omega (arith, same, c.len.ensures.most)) c.put_numbers.ensures.numbers below c.args.batch.now.distinct

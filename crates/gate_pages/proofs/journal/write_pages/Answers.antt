@@ -34,9 +34,12 @@ returns-in_err-write_block-clause-moves g c =
     let below : i < length batch = omega (arith, c.loop-i-test.true, c.len-i-end.ensures.len) in
     let P : ℕ → Type 0 = λ m. IsTrue (is_one_of (numbers batch) m) in
     let here = subst P (sym (ap (λ (e : Entry). e.0) c.page-page.ensures)) (one_of_at batch i below) in
-    let one = moves_weaker (At (66 + n)) (IsHome (numbers batch)) 0 0 1 0 0 1 (view c.loop-i.disk) (view c.write_block.new.self) (λ number at. is_home (numbers batch) n number here at) (omega arith) (omega arith) (omega arith) c.write_block.ensures.moves in
-    moves_weaker (IsHome (numbers batch)) (IsHome (numbers batch)) (0 + 0) (0 + 0) (i + 1) 0 0 (length batch) (view c.args.disk.now) (view c.write_block.new.self) (λ number is. is) (omega arith) (omega arith) (omega (arith, below))
-    (moves_then (IsHome (numbers batch)) 0 0 i 0 0 1 (view c.args.disk.now) (view c.loop-i.disk) (view c.write_block.new.self) c.loop-i.invariant.moves one)
+    let one = moves_weaker (At (66 + n)) (IsHome (numbers batch)) 0 0 1 0 0 1 (view c.loop-i.disk) (view c.write_block.new.self)
+    (λ number at. is_home (numbers batch) n number here at) (omega arith) (omega arith) (omega arith) c.write_block.ensures.moves in
+    moves_weaker (IsHome (numbers batch)) (IsHome (numbers batch)) (0 + 0) (0 + 0) (i + 1) 0 0 (length batch) (view c.args.disk.now)
+    (view c.write_block.new.self) (λ number is. is) (omega arith) (omega arith) (omega (arith, below))
+    (moves_then (IsHome (numbers batch)) 0 0 i 0 0 1 (view c.args.disk.now) (view c.loop-i.disk)
+    (view c.write_block.new.self) c.loop-i.invariant.moves one)
 
 pub loop-i-preserved : goal.loop-i-preserved
 loop-i-preserved g c =
@@ -48,12 +51,15 @@ loop-i-preserved g c =
     let below : i < length batch = omega (arith, c.loop-i-test.true, c.len-i-end.ensures.len) in
     let P : ℕ → Type 0 = λ m. IsTrue (is_one_of (numbers batch) m) in
     let here = subst P (sym (ap (λ (e : Entry). e.0) c.page-page.ensures)) (one_of_at batch i below) in
-    let one = moves_weaker (At (66 + n)) (IsHome (numbers batch)) 0 0 1 0 0 1 (view c.loop-i.disk) (view c.write_block.new.self) (λ number at. is_home (numbers batch) n number here at) (omega arith) (omega arith) (omega arith) c.write_block.ensures.moves in
+    let one = moves_weaker (At (66 + n)) (IsHome (numbers batch)) 0 0 1 0 0 1 (view c.loop-i.disk) (view c.write_block.new.self)
+    (λ number at. is_home (numbers batch) n number here at) (omega arith) (omega arith) (omega arith) c.write_block.ensures.moves in
     record {
-      moves = moves_then (IsHome (numbers batch)) 0 0 i 0 0 1 (view c.args.disk.now) (view c.loop-i.disk) (view c.write_block.new.self) c.loop-i.invariant.moves one;
+      moves = moves_then (IsHome (numbers batch)) 0 0 i 0 0 1 (view c.args.disk.now) (view c.loop-i.disk)
+          (view c.write_block.new.self) c.loop-i.invariant.moves one;
       lies = λ honest.
           let mid = c.loop-i.invariant.moves.honest honest in
-          home_step batch i n page (home (view c.args.disk.now).image) (view c.loop-i.disk).image (view c.write_block.new.self).image below c.args.batch.now.distinct (sym c.page-page.ensures)
+          home_step batch i n page (home (view c.args.disk.now).image) (view c.loop-i.disk).image
+          (view c.write_block.new.self).image below c.args.batch.now.distinct (sym c.page-page.ensures)
           (c.loop-i.invariant.lies honest)
           (c.in_ok-write_block.ensures.written mid ∙ c.as_slice.ensures.value)
           (c.write_block.ensures.moves.off mid);

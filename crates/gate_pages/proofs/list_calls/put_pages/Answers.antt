@@ -14,10 +14,18 @@ replace-requires c =
     let batch = entries c.args.batch.now in
     let i = c.loop-i.i in
     let below : i < length batch = omega (arith, c.loop-i-test.true, c.len-i-end.ensures.len) in
-    let less = below_from_all c.args.count (numbers batch) (get_or batch i (0, [])).0 (numbers_below c.args.count batch c.requires.below) (one_of_at batch i below) in
+    let less = below_from_all c.args.count (numbers batch) (get_or batch i (0, [])).0 (numbers_below c.args.count batch c.requires.below)
+    (one_of_at batch i below) in
     let n = c.page-page.result.now.number in
     let same : n < c.args.count = omega (arith, less, ap (λ (e : Entry). e.0) c.page-page.ensures) in
-    omega (arith, mul-le-mul_left block_size same, c.loop-i.invariant.whole, c.as_slice.ensures.len, c.page-page.result.now.whole, ap length c.as_slice.ensures.value)
+    omega (
+      arith,
+      mul-le-mul_left block_size same,
+      c.loop-i.invariant.whole,
+      c.as_slice.ensures.len,
+      c.page-page.result.now.whole,
+      ap length c.as_slice.ensures.value,
+    )
 
 pub loop-i-preserved : goal.loop-i-preserved
 loop-i-preserved c =
@@ -25,14 +33,16 @@ loop-i-preserved c =
     let i = c.loop-i.i in
     let bytes = c.loop-i.bytes in
     let below : i < length batch = omega (arith, c.loop-i-test.true, c.len-i-end.ensures.len) in
-    let less = below_from_all c.args.count (numbers batch) (get_or batch i (0, [])).0 (numbers_below c.args.count batch c.requires.below) (one_of_at batch i below) in
+    let less = below_from_all c.args.count (numbers batch) (get_or batch i (0, [])).0 (numbers_below c.args.count batch c.requires.below)
+    (one_of_at batch i below) in
     let n = c.page-page.result.now.number in
     let page = c.page-page.result.now.bytes.items in
     let same : n < c.args.count = omega (arith, less, ap (λ (e : Entry). e.0) c.page-page.ensures) in
     let within : block_size * n + block_size ≤ length bytes = omega (arith, mul-le-mul_left block_size same, c.loop-i.invariant.whole) in
     let is = c.replace.ensures ∙ ap (λ l. replaced bytes (block_size * n) l) c.as_slice.ensures.value in
     record {
-      whole = ap length is ∙ length-replaced bytes (block_size * n) page (omega (arith, within, c.page-page.result.now.whole)) ∙ c.loop-i.invariant.whole;
+      whole = ap length is ∙ length-replaced bytes (block_size * n) page (omega (arith, within, c.page-page.result.now.whole))
+          ∙ c.loop-i.invariant.whole;
       so_far = ap (λ l. blocks_of l) is
           ∙ blocks_put bytes n page c.page-page.result.now.whole within
           ∙ ap (λ (m : Image). put n page m) c.loop-i.invariant.so_far

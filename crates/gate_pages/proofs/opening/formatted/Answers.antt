@@ -8,13 +8,15 @@ pub returns-in-Ok-clause-moves : goal.returns-in-Ok-clause-moves
 returns-in-Ok-clause-moves g c =
     let view = g.D.Disk.view in
     moves_then (At 0) 0 0 0 0 1 1 (view c.args.disk.now) (view c.pages_on.new.disk) (view c.shut.new.disk)
-    (moves_weaker Nowhere (At 0) 0 0 0 0 0 0 (view c.args.disk.now) (view c.pages_on.new.disk) (λ number nothing. absurd nothing) (omega arith) (omega arith) (omega arith) c.pages_on.ensures.moves) c.shut.ensures.moves
+    (moves_weaker Nowhere (At 0) 0 0 0 0 0 0 (view c.args.disk.now) (view c.pages_on.new.disk) (λ number nothing. absurd nothing)
+    (omega arith) (omega arith) (omega arith) c.pages_on.ensures.moves) c.shut.ensures.moves
 
 pub returns-in-Err-clause-moves : goal.returns-in-Err-clause-moves
 returns-in-Err-clause-moves g c =
     let view = g.D.Disk.view in
     moves_then (At 0) 0 0 0 0 1 1 (view c.args.disk.now) (view c.pages_on.new.disk) (view c.shut.new.disk)
-    (moves_weaker Nowhere (At 0) 0 0 0 0 0 0 (view c.args.disk.now) (view c.pages_on.new.disk) (λ number nothing. absurd nothing) (omega arith) (omega arith) (omega arith) c.pages_on.ensures.moves) c.shut.ensures.moves
+    (moves_weaker Nowhere (At 0) 0 0 0 0 0 0 (view c.args.disk.now) (view c.pages_on.new.disk) (λ number nothing. absurd nothing)
+    (omega arith) (omega arith) (omega arith) c.pages_on.ensures.moves) c.shut.ensures.moves
 
 pub returns-in-Err-clause-cause : goal.returns-in-Err-clause-cause
 returns-in-Err-clause-cause g c = elim c.in-Err.ensures.cause [
@@ -23,7 +25,8 @@ returns-in-Err-clause-cause g c = elim c.in-Err.ensures.cause [
 ]
 
 pub returns-in_err-count-clause-moves : goal.returns-in_err-count-clause-moves
-returns-in_err-count-clause-moves g c = moves_among (λ number nothing. absurd nothing) (omega arith) (omega arith) (omega arith) c.pages_on.ensures.moves
+returns-in_err-count-clause-moves g c = moves_among (λ number nothing. absurd nothing) (omega arith) (omega arith)
+    (omega arith) c.pages_on.ensures.moves
 
 pub returns-in_err-count-clause-no_memory : goal.returns-in_err-count-clause-no_memory
 returns-in_err-count-clause-no_memory g c =

@@ -11,38 +11,46 @@ use Rattle.gate_pages.proofs.opening.opened.Goals as goal
 pub returns-in-Err-clause-cause : goal.returns-in-Err-clause-cause
 returns-in-Err-clause-cause g c =
     let view = g.D.Disk.view in
-    explains_back (view c.args.disk.now) (view c.pages_on.new.disk) (view c.recover.new.disk) c.pages_on.ensures.moves c.in_ok-count.ensures.quiet c.in-Err.cause c.in-Err.ensures.cause
+    explains_back (view c.args.disk.now) (view c.pages_on.new.disk)
+    (view c.recover.new.disk) c.pages_on.ensures.moves c.in_ok-count.ensures.quiet c.in-Err.cause c.in-Err.ensures.cause
 
 pub returns-in-Err-clause-left : goal.returns-in-Err-clause-left
 returns-in-Err-clause-left g c =
     let view = g.D.Disk.view in
-    leaves_back (view c.args.disk.now) (view c.pages_on.new.disk) (view c.recover.new.disk) c.pages_on.ensures.moves c.in-Err.cause c.in-Err.ensures.left
+    leaves_back (view c.args.disk.now) (view c.pages_on.new.disk)
+    (view c.recover.new.disk) c.pages_on.ensures.moves c.in-Err.cause c.in-Err.ensures.left
 
 pub returns-in-Err-clause-moments : goal.returns-in-Err-clause-moments
 returns-in-Err-clause-moments g c =
     let view = g.D.Disk.view in
     let count = c.in_ok-count.count in
-    counted_moments count (page_count (view c.args.disk.now).size) (view c.args.disk.now) (view c.recover.new.disk) c.in_ok-count.ensures.count
-    (moments_back (view c.args.disk.now) (view c.pages_on.new.disk) (view c.recover.new.disk) c.pages_on.ensures.moves count c.recover.ensures.moments)
+    counted_moments count (page_count (view c.args.disk.now).size) (view c.args.disk.now)
+    (view c.recover.new.disk) c.in_ok-count.ensures.count
+    (moments_back (view c.args.disk.now) (view c.pages_on.new.disk)
+    (view c.recover.new.disk) c.pages_on.ensures.moves count c.recover.ensures.moments)
 
 pub returns-in-Err-clause-moves : goal.returns-in-Err-clause-moves
 returns-in-Err-clause-moves g c =
     let view = g.D.Disk.view in
     moves_then Anywhere 0 0 0 66 3 65 (view c.args.disk.now) (view c.pages_on.new.disk) (view c.recover.new.disk)
-    (moves_weaker Nowhere Anywhere 0 0 0 0 0 0 (view c.args.disk.now) (view c.pages_on.new.disk) (λ number nothing. tt) (omega arith) (omega arith) (omega arith) c.pages_on.ensures.moves) c.recover.ensures.moves
+    (moves_weaker Nowhere Anywhere 0 0 0 0 0 0 (view c.args.disk.now) (view c.pages_on.new.disk) (λ number nothing. tt) (omega arith)
+    (omega arith) (omega arith) c.pages_on.ensures.moves) c.recover.ensures.moves
 
 pub returns-in-Ok-clause-moments : goal.returns-in-Ok-clause-moments
 returns-in-Ok-clause-moments g c =
     let view = g.D.Disk.view in
     let count = c.in_ok-count.count in
-    counted_moments count (page_count (view c.args.disk.now).size) (view c.args.disk.now) (view c.recover.new.disk) c.in_ok-count.ensures.count
-    (moments_back (view c.args.disk.now) (view c.pages_on.new.disk) (view c.recover.new.disk) c.pages_on.ensures.moves count c.recover.ensures.moments)
+    counted_moments count (page_count (view c.args.disk.now).size) (view c.args.disk.now)
+    (view c.recover.new.disk) c.in_ok-count.ensures.count
+    (moments_back (view c.args.disk.now) (view c.pages_on.new.disk)
+    (view c.recover.new.disk) c.pages_on.ensures.moves count c.recover.ensures.moments)
 
 pub returns-in-Ok-clause-moves : goal.returns-in-Ok-clause-moves
 returns-in-Ok-clause-moves g c =
     let view = g.D.Disk.view in
     moves_then Anywhere 0 0 0 66 3 65 (view c.args.disk.now) (view c.pages_on.new.disk) (view c.recover.new.disk)
-    (moves_weaker Nowhere Anywhere 0 0 0 0 0 0 (view c.args.disk.now) (view c.pages_on.new.disk) (λ number nothing. tt) (omega arith) (omega arith) (omega arith) c.pages_on.ensures.moves) c.recover.ensures.moves
+    (moves_weaker Nowhere Anywhere 0 0 0 0 0 0 (view c.args.disk.now) (view c.pages_on.new.disk) (λ number nothing. tt) (omega arith)
+    (omega arith) (omega arith) c.pages_on.ensures.moves) c.recover.ensures.moves
 
 pub returns-in-Ok-clause-pages : goal.returns-in-Ok-clause-pages
 returns-in-Ok-clause-pages g c honest =
@@ -52,7 +60,8 @@ returns-in-Ok-clause-pages g c honest =
     ∙ ap (λ image. pages_of c.in_ok-count.count image) (untouched 0 0 0 (view c.args.disk.now) (view c.pages_on.new.disk) asked honest)
 
 pub returns-in_err-count-clause-moves : goal.returns-in_err-count-clause-moves
-returns-in_err-count-clause-moves g c = moves_among (λ number nothing. tt) (omega arith) (omega arith) (omega arith) c.pages_on.ensures.moves
+returns-in_err-count-clause-moves g c = moves_among (λ number nothing. tt) (omega arith) (omega arith)
+    (omega arith) c.pages_on.ensures.moves
 
 pub returns-in_err-count-clause-moments : goal.returns-in_err-count-clause-moments
 returns-in_err-count-clause-moments g c =
@@ -60,17 +69,20 @@ returns-in_err-count-clause-moments g c =
     stands_quiet (page_count (view c.args.disk.now).size) 0 0 0 (view c.args.disk.now) (view c.pages_on.new.disk) c.pages_on.ensures.moves
 
 pub returns-in_err-count-clause-unwritten : goal.returns-in_err-count-clause-unwritten
-returns-in_err-count-clause-unwritten g c = λ closed. moves_among (λ number nothing. nothing) (omega arith) (omega arith) (omega arith) c.pages_on.ensures.moves
+returns-in_err-count-clause-unwritten g c = λ closed. moves_among (λ number nothing. nothing) (omega arith) (omega arith)
+    (omega arith) c.pages_on.ensures.moves
 
 pub returns-in-Ok-clause-unwritten : goal.returns-in-Ok-clause-unwritten
 returns-in-Ok-clause-unwritten g c =
     let view = g.D.Disk.view in
-    unwritten_back (view c.args.disk.now) (view c.pages_on.new.disk) (view c.recover.new.disk) c.pages_on.ensures.moves c.recover.ensures.unwritten
+    unwritten_back (view c.args.disk.now) (view c.pages_on.new.disk)
+    (view c.recover.new.disk) c.pages_on.ensures.moves c.recover.ensures.unwritten
 
 pub returns-in-Err-clause-unwritten : goal.returns-in-Err-clause-unwritten
 returns-in-Err-clause-unwritten g c =
     let view = g.D.Disk.view in
-    unwritten_back (view c.args.disk.now) (view c.pages_on.new.disk) (view c.recover.new.disk) c.pages_on.ensures.moves c.recover.ensures.unwritten
+    unwritten_back (view c.args.disk.now) (view c.pages_on.new.disk)
+    (view c.recover.new.disk) c.pages_on.ensures.moves c.recover.ensures.unwritten
 
 pub returns-in_err-count-clause-no_memory : goal.returns-in_err-count-clause-no_memory
 returns-in_err-count-clause-no_memory g c =

@@ -33,10 +33,15 @@ returns-in_err-write_block-clause-moves g c =
     let old = view c.loop-i.disk in
     let mid = view c.read_block.new.self in
     let new = view c.write_block.new.self in
-    let read = moves_weaker Nowhere touched 1 0 0 1 0 0 old mid (λ number nothing. absurd nothing) (omega arith) (omega arith) (omega arith) c.read_block.ensures.moves in
-    let written = moves_weaker (At (66 + n)) touched 0 0 1 0 0 1 mid new (λ number at. is_home ns n number (one_of_numbers ns i c.loop-i-test.true) at) (omega arith) (omega arith) (omega arith) c.write_block.ensures.moves in
-    moves_weaker touched touched (i + 1 + 0) (0 + 0 + 0) (i + 0 + 1) (length ns) 0 (length ns) start new (λ number is. is) (omega (arith, c.loop-i-test.true)) (omega arith) (omega (arith, c.loop-i-test.true))
-    (moves_then touched (i + 1) (0 + 0) (i + 0) 0 0 1 start mid new (moves_then touched i 0 i 1 0 0 start old mid c.loop-i.invariant.moves read) written)
+    let read = moves_weaker Nowhere touched 1 0 0 1 0 0 old mid (λ number nothing. absurd nothing) (omega arith) (omega arith)
+    (omega arith) c.read_block.ensures.moves in
+    let written = moves_weaker (At (66 + n)) touched 0 0 1 0 0 1 mid new
+    (λ number at. is_home ns n number (one_of_numbers ns i c.loop-i-test.true) at) (omega arith) (omega arith)
+    (omega arith) c.write_block.ensures.moves in
+    moves_weaker touched touched (i + 1 + 0) (0 + 0 + 0) (i + 0 + 1) (length ns) 0 (length ns) start new (λ number is. is)
+    (omega (arith, c.loop-i-test.true)) (omega arith) (omega (arith, c.loop-i-test.true))
+    (moves_then touched (i + 1) (0 + 0) (i + 0) 0 0 1 start mid new
+    (moves_then touched i 0 i 1 0 0 start old mid c.loop-i.invariant.moves read) written)
 
 pub loop-i-preserved : goal.loop-i-preserved
 loop-i-preserved g c =
@@ -54,11 +59,15 @@ loop-i-preserved g c =
     let in_batch : i < length batch = omega (arith, below, length_images ns 2 start.image) in
     let P : List ℕ → Type 0 = λ l. IsTrue (is_distinct l) in
     let distinct = subst P (sym (numbers_images ns 2 start.image)) c.requires.distinct in
-    let read = moves_weaker Nowhere touched 1 0 0 1 0 0 old mid (λ number nothing. absurd nothing) (omega arith) (omega arith) (omega arith) c.read_block.ensures.moves in
-    let written = moves_weaker (At (66 + n)) touched 0 0 1 0 0 1 mid new (λ number at. is_home ns n number (one_of_numbers ns i below) at) (omega arith) (omega arith) (omega arith) c.write_block.ensures.moves in
+    let read = moves_weaker Nowhere touched 1 0 0 1 0 0 old mid (λ number nothing. absurd nothing) (omega arith) (omega arith)
+    (omega arith) c.read_block.ensures.moves in
+    let written = moves_weaker (At (66 + n)) touched 0 0 1 0 0 1 mid new (λ number at. is_home ns n number (one_of_numbers ns i below) at)
+    (omega arith) (omega arith) (omega arith) c.write_block.ensures.moves in
     record {
-      moves = moves_weaker touched touched (i + 1 + 0) (0 + 0 + 0) (i + 0 + 1) (i + 1) 0 (i + 1) start new (λ number is. is) (omega arith) (omega arith) (omega arith)
-          (moves_then touched (i + 1) (0 + 0) (i + 0) 0 0 1 start mid new (moves_then touched i 0 i 1 0 0 start old mid c.loop-i.invariant.moves read) written);
+      moves = moves_weaker touched touched (i + 1 + 0) (0 + 0 + 0) (i + 0 + 1) (i + 1) 0 (i + 1) start new (λ number is. is) (omega arith)
+          (omega arith) (omega arith)
+          (moves_then touched (i + 1) (0 + 0) (i + 0) 0 0 1 start mid new
+          (moves_then touched i 0 i 1 0 0 start old mid c.loop-i.invariant.moves read) written);
       lies = λ honest.
           let old_honest = c.loop-i.invariant.moves.honest honest in
           let mid_honest = c.read_block.ensures.moves.honest old_honest in
@@ -83,10 +92,14 @@ returns-clause-home g c honest =
     let ns = c.args.numbers.now in
     let start = g.D.Disk.view c.args.disk.now in
     c.loop-i.invariant.lies honest
-    ∙ ap (λ (l : List Entry). put_all l (home start.image)) (take_all c.loop-i.i (images ns 2 start.image) (omega (arith, c.loop-i-test.false, length_images ns 2 start.image)))
+    ∙ ap (λ (l : List Entry). put_all l (home start.image))
+    (take_all c.loop-i.i (images ns 2 start.image) (omega (arith, c.loop-i-test.false, length_images ns 2 start.image)))
 
 pub returns-in_err-read_block-clause-moves : goal.returns-in_err-read_block-clause-moves
-returns-in_err-read_block-clause-moves g c = moves_on (λ number is. is) (λ number nothing. absurd nothing) (omega (arith, c.loop-i-test.true)) (omega arith) (omega (arith, c.loop-i-test.true)) c.loop-i.invariant.moves c.read_block.ensures.moves
+returns-in_err-read_block-clause-moves g c = moves_on (λ number is. is) (λ number nothing. absurd nothing)
+    (omega (arith, c.loop-i-test.true)) (omega arith)
+    (omega (arith, c.loop-i-test.true)) c.loop-i.invariant.moves c.read_block.ensures.moves
 
 pub returns-clause-moves : goal.returns-clause-moves
-returns-clause-moves g c = moves_among (λ number is. is) (omega (arith, c.loop-i.auto.i-end)) (omega arith) (omega (arith, c.loop-i.auto.i-end)) c.loop-i.invariant.moves
+returns-clause-moves g c = moves_among (λ number is. is) (omega (arith, c.loop-i.auto.i-end)) (omega arith)
+    (omega (arith, c.loop-i.auto.i-end)) c.loop-i.invariant.moves

@@ -17,12 +17,14 @@ abbrev Numbers : Type 0
 Numbers = ArrayVec ℕ
 
 -- calls that touch nothing are among those of a recovery
-quiet_moves : (reads syncs : ℕ) (old new : View) → reads ≤ 66 → syncs ≤ 3 → Moves Nowhere reads syncs 0 old new → Moves Anywhere 66 3 65 old new
+quiet_moves : (reads syncs : ℕ) (old new : View) → reads ≤ 66 → syncs ≤ 3 → Moves Nowhere reads syncs 0 old new
+    → Moves Anywhere 66 3 65 old new
 quiet_moves reads syncs old new few_reads few_syncs moves =
     moves_weaker Nowhere Anywhere reads syncs 0 66 3 65 old new (λ number nothing. tt) few_reads few_syncs (omega arith) moves
 
 -- so are those before a replay, with the replay
-replay_moves : (n : ℕ) (old mid new : View) → n ≤ 64 → Moves Nowhere 2 1 0 old mid → Moves Anywhere n 2 (n + 1) mid new → Moves Anywhere 66 3 65 old new
+replay_moves : (n : ℕ) (old mid new : View) → n ≤ 64 → Moves Nowhere 2 1 0 old mid → Moves Anywhere n 2 (n + 1) mid new
+    → Moves Anywhere 66 3 65 old new
 replay_moves n old mid new few before moves =
     moves_then Anywhere 2 1 0 64 2 65 old mid new
     (moves_weaker Nowhere Anywhere 2 1 0 2 1 0 old mid (λ number nothing. tt) (omega arith) (omega arith) (omega arith) before)
@@ -35,7 +37,15 @@ replay-requires-clause-within g c n is =
     let below = subst F c.in-Some.is c.directory.ensures.below in
     let P : List ℕ → Type 0 = λ l. IsTrue (is_one_of l n) in
     let less = below_from_all count c.in-Some.numbers.items n below (subst P c.as_slice.ensures.value is) in
-    omega (arith, less, c.requires.count, c.requires.large, c.sync.ensures.moves.size, c.read_block.ensures.moves.size, c.read_block-2.ensures.moves.size)
+    omega (
+      arith,
+      less,
+      c.requires.count,
+      c.requires.large,
+      c.sync.ensures.moves.size,
+      c.read_block.ensures.moves.size,
+      c.read_block-2.ensures.moves.size,
+    )
 
 pub returns-in_err-read_block-clause-moments : goal.returns-in_err-read_block-clause-moments
 returns-in_err-read_block-clause-moments g c =
@@ -95,11 +105,14 @@ returns-in_err-replay-clause-moments g c =
     let honest2 = c.read_block-2.ensures.moves.was_honest honest in
     let found : option_map (λ (v : Numbers). v.items) c.directory.result ≡ Some c.as_slice.result.now =
     ap (λ o. option_map (λ (v : Numbers). v.items) o) c.in-Some.is ∙ ap (λ (l : List ℕ). Some l) (sym c.as_slice.ensures.value) in
-    ap (λ block. directory count block) (c.read_block-2.ensures.moves.off honest2 1 (λ nothing. nothing) ∙ sym (c.in_ok-read_block-2.ensures.bytes honest2))
+    ap (λ block. directory count block) (c.read_block-2.ensures.moves.off honest2 1 (λ nothing. nothing)
+    ∙ sym (c.in_ok-read_block-2.ensures.bytes honest2))
     ∙ sym c.directory.ensures.directory ∙ found in
     let view4 = view c.replay.new.disk in
     time_then view0 view3 view4 (StandsAsBefore count view0) (stands_quiet count 2 1 0 view0 view3 quiet3)
-    (passes_weaker view3 view4 (StandsAsBefore count view3) (StandsAsBefore count view0) (Quiet view3) (Quiet view3) (λ image stands. stands_back count 2 1 0 view0 view3 image quiet3 stands) (λ sent quiet. quiet) (c.replay.ensures.moments count listed))
+    (passes_weaker view3 view4 (StandsAsBefore count view3) (StandsAsBefore count view0) (Quiet view3) (Quiet view3)
+    (λ image stands. stands_back count 2 1 0 view0 view3 image quiet3 stands) (λ sent quiet. quiet)
+    (c.replay.ensures.moments count listed))
 
 pub returns-clause-moments : goal.returns-clause-moments
 returns-clause-moments g c =
@@ -115,11 +128,14 @@ returns-clause-moments g c =
     let honest2 = c.read_block-2.ensures.moves.was_honest honest in
     let found : option_map (λ (v : Numbers). v.items) c.directory.result ≡ Some c.as_slice.result.now =
     ap (λ o. option_map (λ (v : Numbers). v.items) o) c.in-Some.is ∙ ap (λ (l : List ℕ). Some l) (sym c.as_slice.ensures.value) in
-    ap (λ block. directory count block) (c.read_block-2.ensures.moves.off honest2 1 (λ nothing. nothing) ∙ sym (c.in_ok-read_block-2.ensures.bytes honest2))
+    ap (λ block. directory count block) (c.read_block-2.ensures.moves.off honest2 1 (λ nothing. nothing)
+    ∙ sym (c.in_ok-read_block-2.ensures.bytes honest2))
     ∙ sym c.directory.ensures.directory ∙ found in
     let view4 = view c.replay.new.disk in
     time_then view0 view3 view4 (StandsAsBefore count view0) (stands_quiet count 2 1 0 view0 view3 quiet3)
-    (passes_weaker view3 view4 (StandsAsBefore count view3) (StandsAsBefore count view0) (Quiet view3) (Quiet view3) (λ image stands. stands_back count 2 1 0 view0 view3 image quiet3 stands) (λ sent quiet. quiet) (c.replay.ensures.moments count listed))
+    (passes_weaker view3 view4 (StandsAsBefore count view3) (StandsAsBefore count view0) (Quiet view3) (Quiet view3)
+    (λ image stands. stands_back count 2 1 0 view0 view3 image quiet3 stands) (λ sent quiet. quiet)
+    (c.replay.ensures.moments count listed))
 
 pub returns-clause-pages : goal.returns-clause-pages
 returns-clause-pages g c honest =
@@ -135,10 +151,12 @@ returns-clause-pages g c honest =
     let honest2 = c.read_block-2.ensures.moves.was_honest honest in
     let found : option_map (λ (v : Numbers). v.items) c.directory.result ≡ Some c.as_slice.result.now =
     ap (λ o. option_map (λ (v : Numbers). v.items) o) c.in-Some.is ∙ ap (λ (l : List ℕ). Some l) (sym c.as_slice.ensures.value) in
-    ap (λ block. directory count block) (c.read_block-2.ensures.moves.off honest2 1 (λ nothing. nothing) ∙ sym (c.in_ok-read_block-2.ensures.bytes honest2))
+    ap (λ block. directory count block) (c.read_block-2.ensures.moves.off honest2 1 (λ nothing. nothing)
+    ∙ sym (c.in_ok-read_block-2.ensures.bytes honest2))
     ∙ sym c.directory.ensures.directory ∙ found in
     let honest3 = quiet3.honest honest in
-    c.in_ok-replay.ensures.done count honest3 (listed honest3) ∙ ap (λ image. pages_of count image) (untouched 2 1 0 view0 view3 quiet3 honest)
+    c.in_ok-replay.ensures.done count honest3 (listed honest3)
+    ∙ ap (λ image. pages_of count image) (untouched 2 1 0 view0 view3 quiet3 honest)
 
 pub returns-in_err-sync-clause-moves : goal.returns-in_err-sync-clause-moves
 returns-in_err-sync-clause-moves g c =
@@ -197,7 +215,8 @@ returns-in_err-replay-clause-moves g c =
     let F : Option Numbers → Type 0 = λ o. IfSome o (λ v. length v.items ≤ 64) in
     let few : length c.in-Some.numbers.items ≤ 64 = subst F c.in-Some.is c.directory.ensures.few in
     let same = ap (λ (ns : List ℕ). length ns) c.as_slice.ensures.value in
-    replay_moves (length c.as_slice.result.now) view0 view3 (view c.replay.new.disk) (omega (arith, few, same)) quiet3 c.replay.ensures.moves
+    replay_moves (length c.as_slice.result.now) view0 view3 (view c.replay.new.disk)
+    (omega (arith, few, same)) quiet3 c.replay.ensures.moves
 
 pub returns-clause-moves : goal.returns-clause-moves
 returns-clause-moves g c =
@@ -211,7 +230,8 @@ returns-clause-moves g c =
     let F : Option Numbers → Type 0 = λ o. IfSome o (λ v. length v.items ≤ 64) in
     let few : length c.in-Some.numbers.items ≤ 64 = subst F c.in-Some.is c.directory.ensures.few in
     let same = ap (λ (ns : List ℕ). length ns) c.as_slice.ensures.value in
-    replay_moves (length c.as_slice.result.now) view0 view3 (view c.replay.new.disk) (omega (arith, few, same)) quiet3 c.replay.ensures.moves
+    replay_moves (length c.as_slice.result.now) view0 view3 (view c.replay.new.disk)
+    (omega (arith, few, same)) quiet3 c.replay.ensures.moves
 
 pub returns-in_err-sync-clause-left : goal.returns-in_err-sync-clause-left
 returns-in_err-sync-clause-left g c =
@@ -276,14 +296,17 @@ returns-in_err-replay-clause-no_memory g c =
 pub returns-in_err-read_block-clause-unwritten : goal.returns-in_err-read_block-clause-unwritten
 returns-in_err-read_block-clause-unwritten g c _ =
     let view = g.D.Disk.view in
-    moves_then Nowhere 0 1 0 1 0 0 (view c.args.disk.now) (view c.sync.new.self) (view c.read_block.new.self) c.sync.ensures.moves c.read_block.ensures.moves
+    moves_then Nowhere 0 1 0 1 0 0 (view c.args.disk.now) (view c.sync.new.self)
+    (view c.read_block.new.self) c.sync.ensures.moves c.read_block.ensures.moves
 
 pub returns-then-buffer-ne-OPEN-clause-unwritten : goal.returns-then-buffer-ne-OPEN-clause-unwritten
 returns-then-buffer-ne-OPEN-clause-unwritten g c _ =
     let view = g.D.Disk.view in
-    moves_then Nowhere 0 1 0 1 0 0 (view c.args.disk.now) (view c.sync.new.self) (view c.read_block.new.self) c.sync.ensures.moves c.read_block.ensures.moves
+    moves_then Nowhere 0 1 0 1 0 0 (view c.args.disk.now) (view c.sync.new.self)
+    (view c.read_block.new.self) c.sync.ensures.moves c.read_block.ensures.moves
 
 pub returns-in_err-sync-clause-unwritten : goal.returns-in_err-sync-clause-unwritten
 returns-in_err-sync-clause-unwritten g c _ =
     let view = g.D.Disk.view in
-    moves_weaker Nowhere Nowhere 0 1 0 1 1 0 (view c.args.disk.now) (view c.sync.new.self) (λ number is. is) (omega arith) (omega arith) (omega arith) c.sync.ensures.moves
+    moves_weaker Nowhere Nowhere 0 1 0 1 1 0 (view c.args.disk.now) (view c.sync.new.self) (λ number is. is) (omega arith) (omega arith)
+    (omega arith) c.sync.ensures.moves

@@ -37,7 +37,8 @@ returns-in_err-set_gate-clause-moments g c count listed =
     let view2 = view c.set_gate.new.disk in
     let from = after count ns view0 c.requires.opened listed few in
     let at0 = begun count ns view0 c.requires.opened listed few c.requires.only in
-    let at1 = home_way count batch few view0 (StandsAsBefore count view0) (home view0.image) from many many view0 view1 at0 copied c.in_ok-copy_home.ensures.durable c.in_ok-copy_home.ensures.home in
+    let at1 = home_way count batch few view0 (StandsAsBefore count view0)
+    (home view0.image) from many many view0 view1 at0 copied c.in_ok-copy_home.ensures.durable c.in_ok-copy_home.ensures.home in
     close_time count batch few view0 (StandsAsBefore count view0) (home view0.image) from 0 1 1 view1 view2 at1 c.set_gate.ensures.moves
 
 pub returns-clause-moments : goal.returns-clause-moments
@@ -53,8 +54,10 @@ returns-clause-moments g c count listed =
     let view2 = view c.set_gate.new.disk in
     let from = after count ns view0 c.requires.opened listed few in
     let at0 = begun count ns view0 c.requires.opened listed few c.requires.only in
-    let at1 = home_way count batch few view0 (StandsAsBefore count view0) (home view0.image) from many many view0 view1 at0 copied c.in_ok-copy_home.ensures.durable c.in_ok-copy_home.ensures.home in
-    let at2 = close_way count batch few view0 (StandsAsBefore count view0) (home view0.image) from view1 view2 at1 c.set_gate.ensures.moves c.in_ok-set_gate.ensures.durable c.in_ok-set_gate.ensures.gate in
+    let at1 = home_way count batch few view0 (StandsAsBefore count view0)
+    (home view0.image) from many many view0 view1 at0 copied c.in_ok-copy_home.ensures.durable c.in_ok-copy_home.ensures.home in
+    let at2 = close_way count batch few view0 (StandsAsBefore count view0)
+    (home view0.image) from view1 view2 at1 c.set_gate.ensures.moves c.in_ok-set_gate.ensures.durable c.in_ok-set_gate.ensures.gate in
     at2.time
 
 pub returns-clause-done : goal.returns-clause-done
@@ -70,9 +73,12 @@ returns-clause-done g c count honest listed =
     let view2 = view c.set_gate.new.disk in
     let from = after count ns view0 c.requires.opened (λ any. listed) few in
     let at0 = begun count ns view0 c.requires.opened (λ any. listed) few c.requires.only in
-    let at1 = home_way count batch few view0 (StandsAsBefore count view0) (home view0.image) from many many view0 view1 at0 copied c.in_ok-copy_home.ensures.durable c.in_ok-copy_home.ensures.home in
-    let at2 = close_way count batch few view0 (StandsAsBefore count view0) (home view0.image) from view1 view2 at1 c.set_gate.ensures.moves c.in_ok-set_gate.ensures.durable c.in_ok-set_gate.ensures.gate in
-    let moves1 = moves_weaker (IsHome (numbers batch)) Anywhere many 1 many many 1 many view0 view1 (λ number is. tt) (omega arith) (omega arith) (omega arith) copied in
+    let at1 = home_way count batch few view0 (StandsAsBefore count view0)
+    (home view0.image) from many many view0 view1 at0 copied c.in_ok-copy_home.ensures.durable c.in_ok-copy_home.ensures.home in
+    let at2 = close_way count batch few view0 (StandsAsBefore count view0)
+    (home view0.image) from view1 view2 at1 c.set_gate.ensures.moves c.in_ok-set_gate.ensures.durable c.in_ok-set_gate.ensures.gate in
+    let moves1 = moves_weaker (IsHome (numbers batch)) Anywhere many 1 many many 1 many view0 view1 (λ number is. tt) (omega arith)
+    (omega arith) (omega arith) copied in
     let moves2 = way (At 0) many 1 many 0 1 1 view0 view1 view2 moves1 c.set_gate.ensures.moves in
     (at2.rests.is (moves2.honest honest)).lies ∙ sym (told count ns view0 c.requires.opened (λ any. listed) few honest).stands
 
@@ -86,6 +92,8 @@ returns-clause-moves g c =
     let view1 = view c.copy_home.new.disk in
     let copied = same_homes ns view0.image many 1 many view0 view1 c.copy_home.ensures.moves in
     let view2 = view c.set_gate.new.disk in
-    let moves1 = moves_weaker (IsHome (numbers batch)) Anywhere many 1 many many 1 many view0 view1 (λ number is. tt) (omega arith) (omega arith) (omega arith) copied in
+    let moves1 = moves_weaker (IsHome (numbers batch)) Anywhere many 1 many many 1 many view0 view1 (λ number is. tt) (omega arith)
+    (omega arith) (omega arith) copied in
     let moves2 = way (At 0) many 1 many 0 1 1 view0 view1 view2 moves1 c.set_gate.ensures.moves in
-    moves_weaker Anywhere Anywhere (many + 0) (1 + 1) (many + 1) many 2 (many + 1) view0 view2 (λ number is. is) (omega arith) (omega arith) (omega arith) moves2
+    moves_weaker Anywhere Anywhere (many + 0) (1 + 1) (many + 1) many 2 (many + 1) view0 view2 (λ number is. is) (omega arith) (omega arith)
+    (omega arith) moves2

@@ -32,8 +32,10 @@ returns-in-Ok-clause-ends g c =
     let new = c.serve_store.result.1 in
     let end = c.serve_store.result.0 in
     let e = c.in-Ok.ensures in
-    let all = host_ends (view first) (view start) (view new) (traffic left sent reads sends start new) e.opens e.quiet opened.count end e.count c.serve_store.ensures.serves in
-    let same = traffic_over view left sent reads sends w.beside_left w.beside_sent w.beside_read_faults w.beside_send_faults first start new e.opens.beside_is in
+    let all = host_ends (view first) (view start) (view new)
+    (traffic left sent reads sends start new) e.opens e.quiet opened.count end e.count c.serve_store.ensures.serves in
+    let same = traffic_over view left sent reads sends w.beside_left w.beside_sent w.beside_read_faults w.beside_send_faults first start new
+    e.opens.beside_is in
     let T : Traffic → Type 0 = λ t. HostEnds (view first) (view new) t end in
     subst T same all
 
@@ -45,15 +47,19 @@ returns-in-Err-clause-ends g c =
     let old = c.args.world in
     let back = c.in-Err.field-0 in
     let e = c.in-Err.ensures in
-    unopened_ends (view old) (view back.value) (traffic left sent g.W.Streams.read_faults g.W.Streams.send_faults old back.value) back.cause c.opening_end.result c.opening_end.ensures
-    (unopened_over view left sent g.met.W.World.beside_left g.met.W.World.beside_sent old back.value back.cause e.opens.beside_is e.opens e.cause e.a_store)
+    unopened_ends (view old) (view back.value) (traffic left sent g.W.Streams.read_faults g.W.Streams.send_faults old back.value) back.cause
+    c.opening_end.result c.opening_end.ensures
+    (unopened_over view left sent g.met.W.World.beside_left g.met.W.World.beside_sent old back.value back.cause e.opens.beside_is e.opens
+    e.cause e.a_store)
 
 pub returns-in-Ok-clause-away : goal.returns-in-Ok-clause-away
 returns-in-Ok-clause-away g c = away_never _ _ c.in-Ok.ensures.large
 
 pub returns-in-Err-clause-away : goal.returns-in-Err-clause-away
 returns-in-Err-clause-away g c =
-    away_over g.W.Disk.view g.W.Streams.left g.W.Streams.sent g.met.W.World.beside_left g.met.W.World.beside_sent c.args.world c.in-Err.field-0.value c.in-Err.field-0.cause c.in-Err.ensures.opens.beside_is (status_of c.opening_end.result) (ap (λ (e : End). status_of e) c.opening_end.ensures) c.in-Err.ensures.cause
+    away_over g.W.Disk.view g.W.Streams.left g.W.Streams.sent g.met.W.World.beside_left g.met.W.World.beside_sent c.args.world
+    c.in-Err.field-0.value c.in-Err.field-0.cause c.in-Err.ensures.opens.beside_is (status_of c.opening_end.result)
+    (ap (λ (e : End). status_of e) c.opening_end.ensures) c.in-Err.ensures.cause
 
 pub returns-in-Ok-clause-costs : goal.returns-in-Ok-clause-costs
 returns-in-Ok-clause-costs g c =
@@ -65,7 +71,8 @@ returns-in-Ok-clause-costs g c =
     let new = c.serve_store.result.1 in
     let w = g.met.W.World in
     costs_on opened.count (view old) (view start) (view new) (left start) (left old) c.in-Ok.ensures.count c.in-Ok.ensures.opens
-    (sym (w.beside_left start) ∙ ap (λ (b : Beside). b.left) c.in-Ok.ensures.opens.beside_is ∙ w.beside_left old) c.serve_store.ensures.costs
+    (sym (w.beside_left start) ∙ ap (λ (b : Beside). b.left) c.in-Ok.ensures.opens.beside_is
+    ∙ w.beside_left old) c.serve_store.ensures.costs
 
 pub returns-in-Err-clause-costs : goal.returns-in-Err-clause-costs
 returns-in-Err-clause-costs g c =
@@ -78,14 +85,16 @@ returns-in-Ok-clause-faults g c =
     let old = view c.args.world in
     let start = view (stored.pages c.in-Ok.store).disk in
     let e = c.in-Ok.ensures in
-    counts_then (end_fault c.serve_store.result.0) old start (view c.serve_store.result.1) (counts_no_disk old start e.opens.beside_is e.quiet) c.serve_store.ensures.faults
+    counts_then (end_fault c.serve_store.result.0) old start (view c.serve_store.result.1)
+    (counts_no_disk old start e.opens.beside_is e.quiet) c.serve_store.ensures.faults
 
 pub returns-in-Err-clause-faults : goal.returns-in-Err-clause-faults
 returns-in-Err-clause-faults g c =
     let view = g.W.Disk.view in
     let back = c.in-Err.field-0 in
     let e = c.in-Err.ensures in
-    counts_unopened_end back.cause c.opening_end.result (view c.args.world) (view back.value) c.opening_end.ensures e.opens.beside_is e.cause e.quiet_err
+    counts_unopened_end back.cause c.opening_end.result (view c.args.world)
+    (view back.value) c.opening_end.ensures e.opens.beside_is e.cause e.quiet_err
 
 pub returns-in-Ok-clause-answers : goal.returns-in-Ok-clause-answers
 returns-in-Ok-clause-answers g c =
@@ -95,7 +104,8 @@ returns-in-Ok-clause-answers g c =
     let start = (stored.pages c.in-Ok.store).disk in
     let w = g.met.W.World in
     let beside = c.in-Ok.ensures.opens.beside_is in
-    λ done. answers_over MayAnswerHost followed_behind (left start) (left old) (sent start) (sent old) (sent c.serve_store.result.1) (sym (w.beside_left start) ∙ ap (λ (b : Beside). b.left) beside ∙ w.beside_left old)
+    λ done. answers_over MayAnswerHost followed_behind (left start) (left old) (sent start) (sent old) (sent c.serve_store.result.1)
+    (sym (w.beside_left start) ∙ ap (λ (b : Beside). b.left) beside ∙ w.beside_left old)
     (sym (w.beside_sent start) ∙ ap (λ (b : Beside). b.sent) beside ∙ w.beside_sent old) (c.serve_store.ensures.answers done)
 
 pub returns-in-Err-clause-answers : goal.returns-in-Err-clause-answers
@@ -112,8 +122,10 @@ returns-in-Ok-clause-blames g c =
     let w = g.met.W.World in
     let e = c.in-Ok.ensures in
     let beside = e.opens.beside_is in
-    blames_over MayAnswerHost followed_behind BlamesHost opened.count (page_count (view old).size) (view c.serve_store.result.1) (left start) (left old) (sent start) (sent old) (sent c.serve_store.result.1) c.serve_store.result.0 e.count
-    (sym (w.beside_left start) ∙ ap (λ (b : Beside). b.left) beside ∙ w.beside_left old) (sym (w.beside_sent start) ∙ ap (λ (b : Beside). b.sent) beside ∙ w.beside_sent old) c.serve_store.ensures.blames
+    blames_over MayAnswerHost followed_behind BlamesHost opened.count (page_count (view old).size) (view c.serve_store.result.1)
+    (left start) (left old) (sent start) (sent old) (sent c.serve_store.result.1) c.serve_store.result.0 e.count
+    (sym (w.beside_left start) ∙ ap (λ (b : Beside). b.left) beside ∙ w.beside_left old) (sym (w.beside_sent start)
+    ∙ ap (λ (b : Beside). b.sent) beside ∙ w.beside_sent old) c.serve_store.ensures.blames
 
 pub returns-in-Err-clause-blames : goal.returns-in-Err-clause-blames
 returns-in-Err-clause-blames g c = opening_unblamed c.in-Err.field-0.cause c.opening_end.result _ c.opening_end.ensures

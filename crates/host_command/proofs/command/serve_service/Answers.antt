@@ -45,20 +45,28 @@ returns-clause-serves g c =
     let new = end_pages.disk in
     let store = c.into_store.result in
     let is_service = begun_service start c.new.result service c.new-live.ensures.stepper c.new.ensures in
-    let is_store = ended_store after c.into_stepper.result c.into_service-service.result store c.into_stepper.ensures c.into_service-service.ensures c.into_store.ensures in
+    let is_store = ended_store after c.into_stepper.result c.into_service-service.result store c.into_stepper.ensures
+    c.into_service-service.ensures c.into_store.ensures in
     let same_disk = c.disk_of.ensures.disk ∙ store_disk store (its.service after).store is_store in
     let closed : end ≢ DiskFault → IsClosed (view new) = λ other.
     let P : g.row.W.Denot → Type 0 = λ d. IsClosed (view d) in
-    subst P same_disk (c.disk_of.ensures.rests (subst IsTrue (sym (store_sound store (its.service after).store is_store)) (made.sound other))) in
+    subst P same_disk (c.disk_of.ensures.rests (subst IsTrue (sym (store_sound store (its.service after).store is_store))
+    (made.sound other))) in
     let alone = ap (λ (s : Service _ _). s.sessions) is_service ∙ c.requires.alone in
     let begins : (total : ℕ) (book : List Series) → its.state start total book ≡ begun_live total book =
-    λ total book. begins_so total book (its.service start).sessions start.followed.items start.pending.items alone c.new-live.ensures.none c.new-live.ensures.idle in
+    λ total book. begins_so total book (its.service start).sessions start.followed.items start.pending.items alone c.new-live.ensures.none
+    c.new-live.ensures.idle in
     let R : Service _ _ → Type 0 = λ s. RestsNew (shown.pages s).count (view (shown.pages s).disk) in
-    let rests : RestsNew pages.count (view disk) = subst R (sym is_service) (rests_new (shown.pages service).count (view (shown.pages service).disk) (stored.numbers service.store) ((shown.pages service).at_rest c.requires.sound) (service.store.space.spelled c.requires.sound)) in
-    let all = served_by pages.count end_pages.count pages.sound end_pages.sound (view disk) (view new) (traffic left sent reads sends disk new) made.goes rests (its.state start) begins
-    end (λ done. was_read_within most_bytes (left disk) (left new) (made.within done) (made.whole done)) made.long made.cause made.ends made.crash closed in
+    let rests : RestsNew pages.count (view disk) = subst R (sym is_service)
+    (rests_new (shown.pages service).count (view (shown.pages service).disk) (stored.numbers service.store)
+    ((shown.pages service).at_rest c.requires.sound) (service.store.space.spelled c.requires.sound)) in
+    let all = served_by pages.count end_pages.count pages.sound end_pages.sound (view disk) (view new)
+    (traffic left sent reads sends disk new) made.goes rests (its.state start) begins
+    end (λ done. was_read_within most_bytes (left disk) (left new) (made.within done) (made.whole done)) made.long made.cause made.ends
+    made.crash closed in
     let D : g.row.W.Denot → Type 0 = λ d. Served pages.count (view disk) (view d) (traffic left sent reads sends disk d) end in
-    let S : Service _ _ → Type 0 = λ s. Served (shown.pages s).count (view (shown.pages s).disk) (view c.disk_of.result) (traffic left sent reads sends (shown.pages s).disk c.disk_of.result) end in
+    let S : Service _ _ → Type 0 = λ s. Served (shown.pages s).count (view (shown.pages s).disk) (view c.disk_of.result)
+    (traffic left sent reads sends (shown.pages s).disk c.disk_of.result) end in
     subst S is_service (subst D (sym same_disk) all)
 
 pub returns-clause-costs : goal.returns-clause-costs
@@ -75,16 +83,25 @@ returns-clause-costs g c =
     let new = end_pages.disk in
     let store = c.into_store.result in
     let is_service = begun_service start c.new.result service c.new-live.ensures.stepper c.new.ensures in
-    let is_store = ended_store after c.into_stepper.result c.into_service-service.result store c.into_stepper.ensures c.into_service-service.ensures c.into_store.ensures in
+    let is_store = ended_store after c.into_stepper.result c.into_service-service.result store c.into_stepper.ensures
+    c.into_service-service.ensures c.into_store.ensures in
     let same_disk = c.disk_of.ensures.disk ∙ store_disk store (its.service after).store is_store in
     let alone = ap (λ (s : Service _ _). s.sessions) is_service ∙ c.requires.alone in
     let begins : (total : ℕ) (book : List Series) → its.state start total book ≡ begun_live total book =
-    λ total book. begins_so total book (its.service start).sessions start.followed.items start.pending.items alone c.new-live.ensures.none c.new-live.ensures.idle in
+    λ total book. begins_so total book (its.service start).sessions start.followed.items start.pending.items alone c.new-live.ensures.none
+    c.new-live.ensures.idle in
     let R : Service _ _ → Type 0 = λ s. RestsNew (shown.pages s).count (view (shown.pages s).disk) in
-    let rests : RestsNew pages.count (view disk) = subst R (sym is_service) (rests_new (shown.pages service).count (view (shown.pages service).disk) (stored.numbers service.store) ((shown.pages service).at_rest c.requires.sound) (service.store.space.spelled c.requires.sound)) in
-    let D : g.row.W.Denot → Type 0 = λ d. IfSome (left disk) (λ input. CostsFrom pages.count (view disk) (view d) input (view disk).reads (view disk).syncs) in
-    let S : Service _ _ → Type 0 = λ s. IfSome (left (shown.pages s).disk) (λ input. CostsFrom (shown.pages s).count (view (shown.pages s).disk) (view c.disk_of.result) input (view (shown.pages s).disk).reads (view (shown.pages s).disk).syncs) in
-    subst S is_service (subst D (sym same_disk) (costs_from pages.count (view disk) (view new) (g.W.Streams.pieces disk) (g.W.Streams.pieces new) (g.met.W.World.beside_pieces disk) (g.met.W.World.beside_pieces new) rests (left disk) (its.state start) begins made.costs))
+    let rests : RestsNew pages.count (view disk) = subst R (sym is_service)
+    (rests_new (shown.pages service).count (view (shown.pages service).disk) (stored.numbers service.store)
+    ((shown.pages service).at_rest c.requires.sound) (service.store.space.spelled c.requires.sound)) in
+    let D : g.row.W.Denot → Type 0 = λ d. IfSome (left disk)
+    (λ input. CostsFrom pages.count (view disk) (view d) input (view disk).reads (view disk).syncs) in
+    let S : Service _ _ → Type 0 = λ s. IfSome (left (shown.pages s).disk)
+    (λ input. CostsFrom (shown.pages s).count (view (shown.pages s).disk) (view c.disk_of.result) input
+    (view (shown.pages s).disk).reads (view (shown.pages s).disk).syncs) in
+    subst S is_service (subst D (sym same_disk) (costs_from pages.count (view disk) (view new) (g.W.Streams.pieces disk)
+    (g.W.Streams.pieces new) (g.met.W.World.beside_pieces disk) (g.met.W.World.beside_pieces new) rests (left disk)
+    (its.state start) begins made.costs))
 
 pub returns-clause-faults : goal.returns-clause-faults
 returns-clause-faults g c =
@@ -95,7 +112,8 @@ returns-clause-faults g c =
     let fault = end_fault c.host_lines-end.result in
     let store = c.into_store.result in
     let is_service = begun_service start c.new.result service c.new-live.ensures.stepper c.new.ensures in
-    let is_store = ended_store after c.into_stepper.result c.into_service-service.result store c.into_stepper.ensures c.into_service-service.ensures c.into_store.ensures in
+    let is_store = ended_store after c.into_stepper.result c.into_service-service.result store c.into_stepper.ensures
+    c.into_service-service.ensures c.into_store.ensures in
     let same_disk = c.disk_of.ensures.disk ∙ store_disk store (its.service after).store is_store in
     let D : g.row.W.Denot → Type 0 = λ d. CountsFault fault (view (shown.pages (its.service start)).disk) (view d) in
     let S : Service _ _ → Type 0 = λ s. CountsFault fault (view (shown.pages s).disk) (view c.disk_of.result) in
@@ -113,13 +131,17 @@ returns-clause-answers g c =
     let new = (shown.pages (its.service after)).disk in
     let store = c.into_store.result in
     let is_service = begun_service start c.new.result service c.new-live.ensures.stepper c.new.ensures in
-    let is_store = ended_store after c.into_stepper.result c.into_service-service.result store c.into_stepper.ensures c.into_service-service.ensures c.into_store.ensures in
+    let is_store = ended_store after c.into_stepper.result c.into_service-service.result store c.into_stepper.ensures
+    c.into_service-service.ensures c.into_store.ensures in
     let same_disk = c.disk_of.ensures.disk ∙ store_disk store (its.service after).store is_store in
     let alone = ap (λ (s : Service _ _). s.sessions) is_service ∙ c.requires.alone in
-    let D : g.row.W.Denot → Type 0 = λ d. end ≡ Done → IfSome (left disk) (λ input. SendsAnswers MayAnswerHost followed_behind input (sent disk) (sent d)) in
-    let S : Service _ _ → Type 0 = λ s. end ≡ Done → IfSome (left (shown.pages s).disk) (λ input. SendsAnswers MayAnswerHost followed_behind input (sent (shown.pages s).disk) (sent c.disk_of.result)) in
+    let D : g.row.W.Denot → Type 0 = λ d. end ≡ Done
+    → IfSome (left disk) (λ input. SendsAnswers MayAnswerHost followed_behind input (sent disk) (sent d)) in
+    let S : Service _ _ → Type 0 = λ s. end ≡ Done → IfSome (left (shown.pages s).disk)
+    (λ input. SendsAnswers MayAnswerHost followed_behind input (sent (shown.pages s).disk) (sent c.disk_of.result)) in
     subst S is_service (subst D (sym same_disk)
-    (λ done. sends_answers MayAnswerHost followed_behind (left disk) (watched start) (watched after) (sent disk) (sent new) alone c.new-live.ensures.none (c.host_lines-end.ensures.answers done)))
+    (λ done. sends_answers MayAnswerHost followed_behind (left disk) (watched start) (watched after) (sent disk)
+    (sent new) alone c.new-live.ensures.none (c.host_lines-end.ensures.answers done)))
 
 pub returns-clause-blames : goal.returns-clause-blames
 returns-clause-blames g c =
@@ -134,14 +156,19 @@ returns-clause-blames g c =
     let new = (shown.pages (its.service after)).disk in
     let store = c.into_store.result in
     let is_service = begun_service start c.new.result service c.new-live.ensures.stepper c.new.ensures in
-    let is_store = ended_store after c.into_stepper.result c.into_service-service.result store c.into_stepper.ensures c.into_service-service.ensures c.into_store.ensures in
+    let is_store = ended_store after c.into_stepper.result c.into_service-service.result store c.into_stepper.ensures
+    c.into_service-service.ensures c.into_store.ensures in
     let same_disk = c.disk_of.ensures.disk ∙ store_disk store (its.service after).store is_store in
     let alone = ap (λ (s : Service _ _). s.sessions) is_service ∙ c.requires.alone in
     let pages = shown.pages (its.service start) in
     let end_pages = shown.pages (its.service after) in
     let made = c.host_lines-end.ensures in
-    let blames = disk_blames MayAnswerHost followed_behind BlamesHost host_current pages.count end_pages.count (view new) (left disk) (sent disk) (sent new) end made.goes.size
-    (host_told (shown.IsTold (its.service after)) (its.view after).size (its.view after).image end (left disk) (watched start) (sent disk) (sent new) alone c.new-live.ensures.none made.blames) in
-    let D : g.row.W.Denot → Type 0 = λ d. BlamesOnDisk MayAnswerHost followed_behind BlamesHost pages.count (view d) (left disk) (sent disk) (sent d) end in
-    let S : Service _ _ → Type 0 = λ s. BlamesOnDisk MayAnswerHost followed_behind BlamesHost (shown.pages s).count (view c.disk_of.result) (left (shown.pages s).disk) (sent (shown.pages s).disk) (sent c.disk_of.result) end in
+    let blames = disk_blames MayAnswerHost followed_behind BlamesHost host_current pages.count end_pages.count (view new) (left disk)
+    (sent disk) (sent new) end made.goes.size
+    (host_told (shown.IsTold (its.service after)) (its.view after).size (its.view after).image end (left disk) (watched start) (sent disk)
+    (sent new) alone c.new-live.ensures.none made.blames) in
+    let D : g.row.W.Denot → Type 0 = λ d. BlamesOnDisk MayAnswerHost followed_behind BlamesHost pages.count (view d) (left disk) (sent disk)
+    (sent d) end in
+    let S : Service _ _ → Type 0 = λ s. BlamesOnDisk MayAnswerHost followed_behind BlamesHost (shown.pages s).count (view c.disk_of.result)
+    (left (shown.pages s).disk) (sent (shown.pages s).disk) (sent c.disk_of.result) end in
     subst S is_service (subst D (sym same_disk) blames)

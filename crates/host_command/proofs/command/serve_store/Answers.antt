@@ -14,7 +14,8 @@ use Rattle.hosted_lines.specs.Blaming.{BlamesHost, BlamesOnDisk}
 use Rattle.host_command.proofs.command.serve_store.Goals as goal
 
 pub serve_service-requires-clause-sound : goal.serve_service-requires-clause-sound
-serve_service-requires-clause-sound g c = subst IsTrue (sym (store_sound c.in-Ok.service.store c.args.store c.in-Ok.ensures.store)) c.requires
+serve_service-requires-clause-sound g c = subst IsTrue
+    (sym (store_sound c.in-Ok.service.store c.args.store c.in-Ok.ensures.store)) c.requires
 
 pub returns-in-Ok-clause-serves : goal.returns-in-Ok-clause-serves
 returns-in-Ok-clause-serves g c =
@@ -30,7 +31,8 @@ returns-in-Ok-clause-serves g c =
     let end = c.serve_service.result.0 in
     let D : g.row.W.Denot → Type 0 = λ d. Served (stored.pages made).count (view d) (view new) (traffic left sent reads sends d new) end in
     let C : ℕ → Type 0 = λ n. Served n (view disk) (view new) (traffic left sent reads sends disk new) end in
-    subst C (store_count made store c.in-Ok.ensures.store) (subst D (store_disk made store c.in-Ok.ensures.store) c.serve_service.ensures.serves)
+    subst C (store_count made store c.in-Ok.ensures.store)
+    (subst D (store_disk made store c.in-Ok.ensures.store) c.serve_service.ensures.serves)
 
 pub returns-in-Err-clause-serves : goal.returns-in-Err-clause-serves
 returns-in-Err-clause-serves g c =
@@ -42,7 +44,8 @@ returns-in-Err-clause-serves g c =
     let store = c.args.store in
     let disk = (stored.pages store).disk in
     let back = c.in-Err.field-0.value in
-    let D : g.row.W.Denot → Type 0 = λ d. Served (stored.pages store).count (view disk) (view d) (traffic left sent reads sends disk d) NoMemory in
+    let D : g.row.W.Denot → Type 0 = λ d. Served (stored.pages store).count (view disk) (view d)
+    (traffic left sent reads sends disk d) NoMemory in
     subst D (sym (c.disk_of.ensures.disk ∙ store_disk back store c.in-Err.ensures.back))
     (served_none (stored.pages store).count (view disk) (traffic left sent reads sends disk disk) refl)
 
@@ -54,9 +57,11 @@ returns-in-Ok-clause-costs g c =
     let made = c.in-Ok.service.store in
     let disk = (stored.pages store).disk in
     let new = c.serve_service.result.1 in
-    let D : g.row.W.Denot → Type 0 = λ d. IfSome (left d) (λ input. CostsFrom (stored.pages made).count (view d) (view new) input (view d).reads (view d).syncs) in
+    let D : g.row.W.Denot → Type 0 = λ d. IfSome (left d)
+    (λ input. CostsFrom (stored.pages made).count (view d) (view new) input (view d).reads (view d).syncs) in
     let C : ℕ → Type 0 = λ n. IfSome (left disk) (λ input. CostsFrom n (view disk) (view new) input (view disk).reads (view disk).syncs) in
-    subst C (store_count made store c.in-Ok.ensures.store) (subst D (store_disk made store c.in-Ok.ensures.store) c.serve_service.ensures.costs)
+    subst C (store_count made store c.in-Ok.ensures.store)
+    (subst D (store_disk made store c.in-Ok.ensures.store) c.serve_service.ensures.costs)
 
 pub returns-in-Err-clause-costs : goal.returns-in-Err-clause-costs
 returns-in-Err-clause-costs g c =
@@ -65,8 +70,10 @@ returns-in-Err-clause-costs g c =
     let store = c.args.store in
     let disk = (stored.pages store).disk in
     let back = c.in-Err.field-0.value in
-    let D : g.row.W.Denot → Type 0 = λ d. IfSome (left disk) (λ input. CostsFrom (stored.pages store).count (view disk) (view d) input (view disk).reads (view disk).syncs) in
-    subst D (sym (c.disk_of.ensures.disk ∙ store_disk back store c.in-Err.ensures.back)) (costs_untaken (stored.pages store).count (view disk) (left disk))
+    let D : g.row.W.Denot → Type 0 = λ d. IfSome (left disk)
+    (λ input. CostsFrom (stored.pages store).count (view disk) (view d) input (view disk).reads (view disk).syncs) in
+    subst D (sym (c.disk_of.ensures.disk ∙ store_disk back store c.in-Err.ensures.back))
+    (costs_untaken (stored.pages store).count (view disk) (left disk))
 
 pub returns-in-Ok-clause-faults : goal.returns-in-Ok-clause-faults
 returns-in-Ok-clause-faults g c =
@@ -89,7 +96,8 @@ returns-in-Ok-clause-answers g c =
     let made = c.in-Ok.service.store in
     let new = c.serve_service.result.1 in
     let end = c.serve_service.result.0 in
-    let D : g.row.W.Denot → Type 0 = λ d. end ≡ Done → IfSome (left d) (λ input. SendsAnswers MayAnswerHost followed_behind input (sent d) (sent new)) in
+    let D : g.row.W.Denot → Type 0 = λ d. end ≡ Done
+    → IfSome (left d) (λ input. SendsAnswers MayAnswerHost followed_behind input (sent d) (sent new)) in
     subst D (store_disk made store c.in-Ok.ensures.store) c.serve_service.ensures.answers
 
 pub returns-in-Ok-clause-blames : goal.returns-in-Ok-clause-blames
@@ -102,6 +110,8 @@ returns-in-Ok-clause-blames g c =
     let disk = (stored.pages store).disk in
     let new = c.serve_service.result.1 in
     let end = c.serve_service.result.0 in
-    let D : g.row.W.Denot → Type 0 = λ d. BlamesOnDisk MayAnswerHost followed_behind BlamesHost (stored.pages made).count (view new) (left d) (sent d) (sent new) end in
+    let D : g.row.W.Denot → Type 0 = λ d. BlamesOnDisk MayAnswerHost followed_behind BlamesHost (stored.pages made).count (view new)
+    (left d) (sent d) (sent new) end in
     let C : ℕ → Type 0 = λ n. BlamesOnDisk MayAnswerHost followed_behind BlamesHost n (view new) (left disk) (sent disk) (sent new) end in
-    subst C (store_count made store c.in-Ok.ensures.store) (subst D (store_disk made store c.in-Ok.ensures.store) c.serve_service.ensures.blames)
+    subst C (store_count made store c.in-Ok.ensures.store)
+    (subst D (store_disk made store c.in-Ok.ensures.store) c.serve_service.ensures.blames)

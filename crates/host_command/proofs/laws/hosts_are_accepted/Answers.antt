@@ -3,7 +3,11 @@ use Rattle.host_command.proofs.Drawing.{Requests, Steps, hosts_accepted}
 use Rattle.host_command.proofs.laws.hosts_are_accepted.Goals as goal
 
 requests : goal.After-clients_draw_pushes → Requests
-requests c = record { draws = c.clients_draw_requests.ensures.draws; accepts = c.clients_draw_requests.ensures.accepts; order = c.points_are_the_samples.ensures.order }
+requests c = record {
+  draws = c.clients_draw_requests.ensures.draws;
+  accepts = c.clients_draw_requests.ensures.accepts;
+  order = c.points_are_the_samples.ensures.order;
+}
 
 laws : goal.After-clients_draw_pushes → Laws
 laws c = record {

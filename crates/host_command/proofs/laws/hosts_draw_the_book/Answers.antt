@@ -3,7 +3,11 @@ use Rattle.host_command.proofs.Drawing.{Groups, Requests, Steps, hosts_drawn}
 use Rattle.host_command.proofs.laws.hosts_draw_the_book.Goals as goal
 
 requests : goal.After-pushes_show_views → Requests
-requests c = record { draws = c.clients_draw_requests.ensures.draws; accepts = c.clients_draw_requests.ensures.accepts; order = c.points_are_the_samples.ensures.order }
+requests c = record {
+  draws = c.clients_draw_requests.ensures.draws;
+  accepts = c.clients_draw_requests.ensures.accepts;
+  order = c.points_are_the_samples.ensures.order;
+}
 
 laws : goal.After-pushes_show_views → Laws
 laws c = record {

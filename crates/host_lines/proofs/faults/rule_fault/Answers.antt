@@ -8,16 +8,20 @@ returns-then-at-line-clause-fault c = rule_missing c.args.line.now c.args.at c.i
 
 pub returns-then-eq-clause-fault : goal.returns-then-eq-clause-fault
 unfolding rule_fault
-returns-then-eq-clause-fault c = rw (rule_word c.args.line.now c.args.at c.token_at-word.result.now (omega arith) c.token_at-word.ensures.token) (search rules)
+returns-then-eq-clause-fault c = rw (rule_word c.args.line.now c.args.at c.token_at-word.result.now
+    (omega arith) c.token_at-word.ensures.token) (search rules)
 
 pub returns-then-eq-2-clause-fault : goal.returns-then-eq-2-clause-fault
 unfolding rule_fault
-returns-then-eq-2-clause-fault c = rw (rule_word c.args.line.now c.args.at c.token_at-word.result.now (omega arith) c.token_at-word.ensures.token) (search rules)
+returns-then-eq-2-clause-fault c = rw (rule_word c.args.line.now c.args.at c.token_at-word.result.now
+    (omega arith) c.token_at-word.ensures.token) (search rules)
 
 pub returns-then-eq-3-clause-fault : goal.returns-then-eq-3-clause-fault
 unfolding rule_fault
-returns-then-eq-3-clause-fault c = rw (rule_word c.args.line.now c.args.at c.token_at-word.result.now (omega arith) c.token_at-word.ensures.token) (search rules)
+returns-then-eq-3-clause-fault c = rw (rule_word c.args.line.now c.args.at c.token_at-word.result.now
+    (omega arith) c.token_at-word.ensures.token) (search rules)
 
 pub returns-clause-fault : goal.returns-clause-fault
 unfolding rule_fault
-returns-clause-fault c = rw (rule_word c.args.line.now c.args.at c.token_at-word.result.now (omega arith) c.token_at-word.ensures.token) (search rules)
+returns-clause-fault c = rw (rule_word c.args.line.now c.args.at c.token_at-word.result.now (omega arith) c.token_at-word.ensures.token)
+    (search rules)

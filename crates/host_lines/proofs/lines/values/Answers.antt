@@ -24,7 +24,8 @@ returns-in-None-clause-asked c =
     let at = c.args.at in
     let there : at ≤ length line = fault_there line _ _ at c.in-None.ensures.fault in
     let words : left line at ≡ tokens c.tail_at.result.now = left_there line at there ∙ ap tokens (sym c.tail_at.ensures) in
-    let same : values_named (tokens c.tail_at.result.now) ≡ unless (places_fault (length line) values_places (left line at) at) (values_named (left line at)) =
+    let same : values_named (tokens c.tail_at.result.now) ≡ unless (places_fault (length line) values_places (left line at) at)
+    (values_named (left line at)) =
     sym (ap values_named words) ∙ ap (λ o. unless o (values_named (left line at))) c.in-None.ensures.fault in
     let P : HostLine → Type 0 = λ x. IfOk c.values_named.result (λ asked. asked ≡ x) in
     subst P same c.values_named.ensures.asked

@@ -14,7 +14,8 @@ returns-in-Values g c =
     let t1 = to_z w128 (of_z w128 c.in-Values.t1) in
     let from : t0 ≡ c.in-Values.t0 = search rules in
     let to : t1 ≡ c.in-Values.t1 = search rules in
-    let at : Values name t0 t1 ≡ c.args.asked.now = ap (λ (t : ℤ). Values name t t1) from ∙ ap (λ (t : ℤ). Values name c.in-Values.t0 t) to ∙ sym c.in-Values.is in
+    let at : Values name t0 t1 ≡ c.args.asked.now = ap (λ (t : ℤ). Values name t t1) from ∙ ap (λ (t : ℤ). Values name c.in-Values.t0 t) to
+    ∙ sym c.in-Values.is in
     let R : HostLine → Type 0 = λ asked. Reads asked c.args.store.now c.values_reply.new.store c.values_reply.result in
     let said = c.values_reply.ensures in
     subst R at (record {
@@ -43,7 +44,8 @@ returns-in-Sum g c =
       looks = said.looks;
       reads = tt;
       reads_over = said.reads;
-      cause = sum_why (stored.IsTold at) (stored.IsTold later) (stored.view at) (stored.view later) (stored.under at) (stored.under later) (stored.numbers at) (stored.numbers later) (stored.kept_catalog at) (stored.kept_catalog later) said.looks
+      cause = sum_why (stored.IsTold at) (stored.IsTold later) (stored.view at) (stored.view later) (stored.under at) (stored.under later)
+          (stored.numbers at) (stored.numbers later) (stored.kept_catalog at) (stored.kept_catalog later) said.looks
           c.in-Sum.session c.in-Sum.request c.sum_frame.result at.space.rules.total_high said.cause;
       faults = said.faults;
     })

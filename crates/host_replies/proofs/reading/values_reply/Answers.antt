@@ -35,7 +35,8 @@ returns-then-is_bad_window-clause-reply g c = λ total book told stands.
     let A : ℤ → Type 0 = λ t. IsBadWindow t t1 in
     let B : ℤ → Type 0 = λ t. IsBadWindow c.args.t0 t in
     let bad = subst B (to_z-of_z w128 c.args.t1 c.ranges.t1) (subst A (to_z-of_z w128 c.args.t0 c.ranges.t0) passed) in
-    values_told c.args.name.now c.args.t0 c.args.t1 total book id c.refused-then-is_bad_window.result named (λ series there. inl (bad, c.refused-then-is_bad_window.ensures.frame))
+    values_told c.args.name.now c.args.t0 c.args.t1 total book id c.refused-then-is_bad_window.result named
+    (λ series there. inl (bad, c.refused-then-is_bad_window.ensures.frame))
 
 pub returns-in-Ok-clause-reply : goal.returns-in-Ok-clause-reply
 returns-in-Ok-clause-reply g c = λ total book told stands.
@@ -51,7 +52,11 @@ returns-in-Ok-clause-reply g c = λ total book told stands.
     let good = subst B to (subst A from passed) in
     values_told c.args.name.now c.args.t0 c.args.t1 total book id (Report (Values c.in-Ok.values)) named (λ series there.
     let are : c.in-Ok.values ≡ values_of id series t0 t1 = c.in-Ok.ensures.frame total book series told stands there in
-    inr (good, ap (λ (v : ValuesFrame). Report (Values v)) (are ∙ ap (λ (t : ℤ). values_of id series t t1) from ∙ ap (λ (t : ℤ). values_of id series c.args.t0 t) to)))
+    inr (
+      good,
+      ap (λ (v : ValuesFrame). Report (Values v)) (are ∙ ap (λ (t : ℤ). values_of id series t t1) from
+          ∙ ap (λ (t : ℤ). values_of id series c.args.t0 t) to),
+    ))
 
 pub returns-in-Err-clause-standing : goal.returns-in-Err-clause-standing
 returns-in-Err-clause-standing g c = λ total book told stands.
@@ -75,10 +80,12 @@ returns-in-Err-clause-cause g c =
       there = omega (arith, c.in-Some.ensures.there, at.count);
       named = λ t. named_record old.image (stored.catalog at) name id c.in-Some.ensures.there (at.told sound t) c.in-Some.ensures.named;
     } in
-    let looks = looks_at (stored.IsTold at) (stored.IsTold later) old new (stored.under at) (stored.under later) (stored.numbers at) (stored.numbers later) (stored.kept_catalog at) (stored.kept_catalog later) c.in-Err.ensures.looks c.in-Err.ensures.catalog in
+    let looks = looks_at (stored.IsTold at) (stored.IsTold later) old new (stored.under at) (stored.under later) (stored.numbers at)
+    (stored.numbers later) (stored.kept_catalog at) (stored.kept_catalog later) c.in-Err.ensures.looks c.in-Err.ensures.catalog in
     let E : ServiceError → Type 0 = λ e. IsPageCause e (line.Values name c.args.t0 c.args.t1) (stored.IsTold later) old new in
     subst E (sym c.read_error.ensures)
-    (values_cause (stored.IsTold at) (stored.IsTold later) old new (stored.under at) (stored.under later) (stored.numbers at) (stored.numbers later) (stored.kept_catalog at) (stored.kept_catalog later) looks
+    (values_cause (stored.IsTold at) (stored.IsTold later) old new (stored.under at) (stored.under later) (stored.numbers at)
+    (stored.numbers later) (stored.kept_catalog at) (stored.kept_catalog later) looks
     name c.args.t0 c.args.t1 id c.in-Err.error names c.in-Err.ensures.cause)
 
 pub returns-in-Err-clause-faults : goal.returns-in-Err-clause-faults
@@ -87,4 +94,6 @@ returns-in-Err-clause-faults g c =
     let old = stored.view at in
     let new = stored.view c.values_frame.new.store in
     let F : ServiceError → Type 0 = λ e. CountsFault (step_fault e) old new in
-    subst F (sym c.read_error.ensures) (read_faults (stored.IsTold at) (stored.numbers at) c.in-Some.info.id c.in-Err.error old new c.in-Err.ensures.looks.kept.beside c.in-Err.ensures.quiet_err c.in-Err.ensures.cause)
+    subst F (sym c.read_error.ensures) (read_faults (stored.IsTold at)
+    (stored.numbers at) c.in-Some.info.id c.in-Err.error old new c.in-Err.ensures.looks.kept.beside c.in-Err.ensures.quiet_err
+    c.in-Err.ensures.cause)

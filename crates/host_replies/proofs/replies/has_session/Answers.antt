@@ -10,4 +10,5 @@ pub returns-in-Sum : goal.returns-in-Sum
 returns-in-Sum g c =
     let ss = shown.sessions c.args.service.now in
     let P : HostLine → Type 0 = λ asked. c.is_some.result ≡ has_session asked ss in
-    subst P (sym c.in-Sum.is) (c.is_some.ensures ∙ ap (λ (o : Option ℕ). is_some o) c.cache.ensures.cache ∙ open_by_cache c.in-Sum.session ss)
+    subst P (sym c.in-Sum.is) (c.is_some.ensures ∙ ap (λ (o : Option ℕ). is_some o) c.cache.ensures.cache
+    ∙ open_by_cache c.in-Sum.session ss)

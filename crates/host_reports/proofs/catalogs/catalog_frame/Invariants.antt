@@ -5,4 +5,5 @@ use Rattle.host_reports.specs.Reports.{listed}
 use Rattle.host_reports.proofs.catalogs.catalog_frame.Given as goal
 
 abbrev pub invariant-loop-id : goal.invariant-loop-id
-invariant-loop-id g l = shown.ForSoundBook l.store (λ total book. l.series.items ≡ map listed (take l.id book)) × All FitsListed l.series.items × (length l.series.items ≡ l.id)
+invariant-loop-id g l = shown.ForSoundBook l.store (λ total book. l.series.items ≡ map listed (take l.id book))
+    × All FitsListed l.series.items × (length l.series.items ≡ l.id)

@@ -12,7 +12,8 @@ returns-in-Before-clause-pushes g c =
     let clears = c.args.clears in
     let some : 1 ≤ clears = omega (arith, c.if-clears-eq0.false) in
     on_ok_so c.push_to.result (follows.PushesTo c.in-Before.name old new) (PushesBehind rule clears old new)
-    (behind_named (record { names = λ it name id x. x; sessions = λ it. refl }) rule c.in-Before.name clears old new (before_follows rule c.in-Before.name c.in-Before.time c.in-Before.is) some)
+    (behind_named (record { names = λ it name id x. x; sessions = λ it. refl }) rule c.in-Before.name clears old new
+    (before_follows rule c.in-Before.name c.in-Before.time c.in-Before.is) some)
     c.push_to.ensures.pushes
 
 pub returns-in-Last-clause-pushes : goal.returns-in-Last-clause-pushes
@@ -23,5 +24,6 @@ returns-in-Last-clause-pushes g c =
     let clears = c.args.clears in
     let some : 1 ≤ clears = omega (arith, c.if-clears-eq0.false) in
     on_ok_so c.push_to-in-Last.result (follows.PushesTo c.in-Last.name old new) (PushesBehind rule clears old new)
-    (behind_named (record { names = λ it name id x. x; sessions = λ it. refl }) rule c.in-Last.name clears old new (last_follows rule c.in-Last.name c.in-Last.count c.in-Last.is) some)
+    (behind_named (record { names = λ it name id x. x; sessions = λ it. refl }) rule c.in-Last.name clears old new
+    (last_follows rule c.in-Last.name c.in-Last.count c.in-Last.is) some)
     c.push_to-in-Last.ensures.pushes

@@ -7,7 +7,8 @@ returns-in-Ok-push_behind g c =
     let mid = c.with_stepper.new.self in
     let new = c.push_behind.new.live in
     let made = c.in-Ok.ensures in
-    let facts = step_done c.args.rule.now c.in-Ok.swept c.swept_frame.result old mid new c.swept_frame.ensures.frame c.swept_frame.ensures.fits made.followed made.does c.in-Ok-push_behind.ensures.pushes in
+    let facts = step_done c.args.rule.now c.in-Ok.swept c.swept_frame.result old mid new c.swept_frame.ensures.frame
+    c.swept_frame.ensures.fits made.followed made.does c.in-Ok-push_behind.ensures.pushes in
     record {
       reply = facts.reply;
       standing = facts.standing;
@@ -34,7 +35,8 @@ returns-in-Err-push_behind g c =
     let mid = c.with_stepper.new.self in
     let new = c.push_behind.new.live in
     let made = c.in-Ok.ensures in
-    let facts = step_untold c.args.rule.now c.in-Ok.swept old mid new c.requires.idle made.followed made.pending made.does c.in-Err-push_behind.ensures.unchanged in
+    let facts = step_untold c.args.rule.now c.in-Ok.swept old mid new c.requires.idle made.followed made.pending made.does
+    c.in-Err-push_behind.ensures.unchanged in
     record {
       reply = facts.reply;
       standing = facts.standing;
@@ -60,7 +62,8 @@ returns-in-Err g c =
     let old = c.args.live.now in
     let new = c.with_stepper.new.self in
     let made = c.in-Err.ensures in
-    let facts = step_failed c.args.rule.now c.in-Err.error c.error_reply.result old new c.error_reply.ensures.reply c.error_reply.ensures.fits c.requires.idle made.followed made.pending made.does in
+    let facts = step_failed c.args.rule.now c.in-Err.error c.error_reply.result old new c.error_reply.ensures.reply
+    c.error_reply.ensures.fits c.requires.idle made.followed made.pending made.does in
     record {
       reply = facts.reply;
       standing = facts.standing;

@@ -40,8 +40,10 @@ returns-in-Ok-clause-does g c = λ total book told stands sound.
     let some : 0 < length c.args.line.now = grind (arith, common_steps) in
     let state = held_with total book (held_by old) in
     let first = c.in-Ok.ensures.does total book told stands sound in
-    line_some text total state c.send_pushes.result (view (pages old)) (view (pages new)) (held_by new) (sent (pages old)) (sent (pages new)) some
-    (then_does (Some text ∷ []) total state (held_by mid) (held_by new) (view (pages old)) (view (pages mid)) (view (pages new)) (sent (pages old)) (sent (pages mid)) (sent (pages new)) first.done
+    line_some text total state c.send_pushes.result (view (pages old)) (view (pages new)) (held_by new) (sent (pages old))
+    (sent (pages new)) some
+    (then_does (Some text ∷ []) total state (held_by mid) (held_by new) (view (pages old)) (view (pages mid)) (view (pages new))
+    (sent (pages old)) (sent (pages mid)) (sent (pages new)) first.done
     (w.counts_sent (pages old)) (w.counts_sent (pages mid)) first.moments c.send_pushes.result
     (c.send_pushes.ensures.does total first.done.book (c.in-Ok.ensures.goes.is_told told) first.done.stands first.done.sound))
 
@@ -53,7 +55,8 @@ returns-in-Err-clause-does g c = λ total book told stands sound.
     let new = c.answer_frame.new.live in
     let text = c.args.line.now in
     let some : 0 < length c.args.line.now = grind (arith, common_steps) in
-    line_some text total (held_with total book (held_by old)) _ (view (pages old)) (view (pages new)) (held_by new) (sent (pages old)) (sent (pages new)) some (c.in-Err.ensures.does total book told stands sound)
+    line_some text total (held_with total book (held_by old)) _ (view (pages old)) (view (pages new)) (held_by new) (sent (pages old))
+    (sent (pages new)) some (c.in-Err.ensures.does total book told stands sound)
 
 pub returns-then-is_empty-clause-syncs : goal.returns-then-is_empty-clause-syncs
 returns-then-is_empty-clause-syncs g c =
@@ -64,7 +67,8 @@ pub returns-in-Ok-clause-syncs : goal.returns-in-Ok-clause-syncs
 returns-in-Ok-clause-syncs g c =
     let view = g.P.Pages.view in
     let some : 0 < length c.args.line.now = grind (arith, common_steps) in
-    text_syncs c.args.line.now (view (pages c.args.live.now)).syncs (view (pages c.send_pushes.new.live)).syncs some (omega (arith, c.in-Ok.ensures.syncs, c.send_pushes.ensures.syncs))
+    text_syncs c.args.line.now (view (pages c.args.live.now)).syncs (view (pages c.send_pushes.new.live)).syncs some
+    (omega (arith, c.in-Ok.ensures.syncs, c.send_pushes.ensures.syncs))
 
 pub returns-in-Err-clause-syncs : goal.returns-in-Err-clause-syncs
 returns-in-Err-clause-syncs g c =
@@ -75,7 +79,8 @@ returns-in-Err-clause-syncs g c =
 pub returns-in-Ok-clause-faults : goal.returns-in-Ok-clause-faults
 returns-in-Ok-clause-faults g c =
     let view = g.P.Pages.view in
-    counts_then (fault_in end_fault c.send_pushes.result) (view (pages c.args.live.now)) (view (pages c.answer_frame.new.live)) (view (pages c.send_pushes.new.live)) c.in-Ok.ensures.faults c.send_pushes.ensures.faults
+    counts_then (fault_in end_fault c.send_pushes.result) (view (pages c.args.live.now)) (view (pages c.answer_frame.new.live))
+    (view (pages c.send_pushes.new.live)) c.in-Ok.ensures.faults c.send_pushes.ensures.faults
 
 pub returns-then-is_empty-clause-sends : goal.returns-then-is_empty-clause-sends
 returns-then-is_empty-clause-sends g c =
@@ -96,8 +101,10 @@ returns-in-Ok-clause-sends g c =
     let some : 0 < length c.args.line.now = grind (arith, common_steps) in
     let own = watched old in
     let behind = watched new in
-    sends_so MayAnswerLive followed_after c.send_pushes.result (Some text ∷ []) (unless_empty (Some text)) own behind (sent (pages old)) (sent (pages new)) (sym (said (Some text) (says_text text some)))
-    (sends_then MayAnswerLive followed_after c.send_pushes.result (Some text ∷ []) [] own (watched mid) behind (sent (pages old)) (sent (pages mid)) (sent (pages new)) c.in-Ok.ensures.sends c.send_pushes.ensures.sends)
+    sends_so MayAnswerLive followed_after c.send_pushes.result (Some text ∷ []) (unless_empty (Some text)) own behind (sent (pages old))
+    (sent (pages new)) (sym (said (Some text) (says_text text some)))
+    (sends_then MayAnswerLive followed_after c.send_pushes.result (Some text ∷ []) [] own (watched mid) behind (sent (pages old))
+    (sent (pages mid)) (sent (pages new)) c.in-Ok.ensures.sends c.send_pushes.ensures.sends)
 
 pub returns-in-Ok-clause-blames : goal.returns-in-Ok-clause-blames
 returns-in-Ok-clause-blames g c =
@@ -107,9 +114,13 @@ returns-in-Ok-clause-blames g c =
     let new = c.send_pushes.new.live in
     let text = c.args.line.now in
     let some : 0 < length c.args.line.now = grind (arith, common_steps) in
-    lines_blame MayAnswerLive followed_after Blames (shown.IsTold (its.service new)) (its.view new).size (its.view new).image c.send_pushes.result (Some text ∷ []) (unless_empty (Some text)) (watched old) (sent (pages old)) (sent (pages new))
+    lines_blame MayAnswerLive followed_after Blames (shown.IsTold (its.service new)) (its.view new).size
+    (its.view new).image c.send_pushes.result (Some text ∷ []) (unless_empty (Some text)) (watched old) (sent (pages old))
+    (sent (pages new))
     (sym (said (Some text) (says_text text some)))
-    (behind_blames MayAnswerLive followed_after Blames (shown.IsTold (its.service new)) (its.view new).size (its.view new).image c.send_pushes.result (Some text ∷ []) [] (watched old) (watched mid) (sent (pages old)) (sent (pages mid)) (sent (pages new))
+    (behind_blames MayAnswerLive followed_after Blames (shown.IsTold (its.service new)) (its.view new).size
+    (its.view new).image c.send_pushes.result (Some text ∷ []) [] (watched old) (watched mid) (sent (pages old)) (sent (pages mid))
+    (sent (pages new))
     c.in-Ok.ensures.sends c.send_pushes.ensures.blames)
 
 pub returns-in-Err-clause-blames : goal.returns-in-Err-clause-blames
@@ -120,5 +131,6 @@ returns-in-Err-clause-blames g c =
     let text = c.args.line.now in
     let some : 0 < length c.args.line.now = grind (arith, common_steps) in
     let failed : Result ⊤ _ = Err c.in-Err.end in
-    lines_blame MayAnswerLive followed_after Blames (shown.IsTold (its.service new)) (its.view new).size (its.view new).image failed (Some text ∷ []) (unless_empty (Some text)) (watched old) (sent (pages old)) (sent (pages new))
+    lines_blame MayAnswerLive followed_after Blames (shown.IsTold (its.service new)) (its.view new).size (its.view new).image failed
+    (Some text ∷ []) (unless_empty (Some text)) (watched old) (sent (pages old)) (sent (pages new))
     (sym (said (Some text) (says_text text some))) c.in-Err.ensures.blames

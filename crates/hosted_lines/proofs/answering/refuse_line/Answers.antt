@@ -34,10 +34,14 @@ returns-clause-does g c = λ total book told stands sound.
     let sends = made.beside.changed.store_is.pages_are in
     let state = held_with total book (held_by old) in
     frame_does (None ∷ []) total state (LiveReplied None) (λ f after replied. by_answer None f state after c.requires.idle replied)
-    frame (held_by old) (held_by new) (held_same _ _ _ _ _ _ made.beside.changed.sessions made.beside.followed_same made.beside.pending_same) book
-    (long_replied frame state c.refused.ensures.frame c.refused.ensures.fits sound c.requires.idle) sound (view at) (view at) (view at') (sent at) (sent at) (sent at') stands (through_none (view at) _) refl refl
-    (reads_answer None frame state state (view at).reads (view at).reads c.requires.idle (long_replied frame state c.refused.ensures.frame c.refused.ensures.fits sound c.requires.idle) refl)
-    (w.send_keeps n at at' sends) c.send_frame.result made.whole made.stops (g.met.P.Pages.rests at c.requires.sound) (w.send_passes n at at' sends) (w.send_counts n at at' sends)
+    frame (held_by old) (held_by new) (held_same _ _ _ _ _ _ made.beside.changed.sessions made.beside.followed_same
+    made.beside.pending_same) book
+    (long_replied frame state c.refused.ensures.frame c.refused.ensures.fits sound c.requires.idle) sound (view at) (view at) (view at')
+    (sent at) (sent at) (sent at') stands (through_none (view at) _) refl refl
+    (reads_answer None frame state state (view at).reads (view at).reads c.requires.idle
+    (long_replied frame state c.refused.ensures.frame c.refused.ensures.fits sound c.requires.idle) refl)
+    (w.send_keeps n at at' sends) c.send_frame.result made.whole made.stops (g.met.P.Pages.rests at c.requires.sound)
+    (w.send_passes n at at' sends) (w.send_counts n at at' sends)
 
 pub returns-clause-syncs : goal.returns-clause-syncs
 returns-clause-syncs g c =
@@ -55,8 +59,11 @@ returns-clause-sends g c =
     let made = c.send_frame.ensures in
     let O : Frame → Type 0 = λ f. OpensBy f own.sessions own.sessions in
     let L : Frame → Type 0 = λ f. LastsBy (OfRowsLine None) f own.sessions own.sessions in
-    sends_answer MayAnswerLive followed_after c.send_frame.result frame own own (watched new) (sent (pages old)) (sent (pages old)) (sent (pages new)) c.refused.ensures.fits
-    (subst O (sym c.refused.ensures.frame) (refused_stays LineTooLong own.sessions)) (watched_same (watched new) own made.beside.changed.sessions made.beside.followed_same) refl made.whole None c.refused.ensures.frame refl (subst L (sym c.refused.ensures.frame) (λ n id last. last))
+    sends_answer MayAnswerLive followed_after c.send_frame.result frame own own (watched new) (sent (pages old)) (sent (pages old))
+    (sent (pages new)) c.refused.ensures.fits
+    (subst O (sym c.refused.ensures.frame) (refused_stays LineTooLong own.sessions))
+    (watched_same (watched new) own made.beside.changed.sessions made.beside.followed_same) refl made.whole None c.refused.ensures.frame
+    refl (subst L (sym c.refused.ensures.frame) (λ n id last. last))
 
 pub returns-clause-blames : goal.returns-clause-blames
 returns-clause-blames g c = unsent_blames c.send_frame.result c.refused.result _ _ _ c.send_frame.ensures.stops

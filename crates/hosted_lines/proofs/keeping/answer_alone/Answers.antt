@@ -19,7 +19,9 @@ returns-in-List-clause-does g c = λ lines spell total book told stands sound.
     let line = c.args.line.now in
     let old = c.args.live.now in
     let new = c.answer_asked.new.live in
-    lines_so 1 (lines ++ Some line ∷ []) (lines ++ unless_empty (Some line)) total (held_with total book (held_by old)) c.answer_asked.result (view (pages old)) (view (pages new)) (held_by new) (sent (pages old)) (sent (pages new))
+    lines_so 1 (lines ++ Some line ∷ []) (lines ++ unless_empty (Some line)) total
+    (held_with total book (held_by old)) c.answer_asked.result (view (pages old)) (view (pages new)) (held_by new) (sent (pages old))
+    (sent (pages new))
     (ap (λ l. lines ++ l) (sym (said (Some line) (says_text line c.requires.some))))
     (c.answer_asked.ensures.does line (sym c.requires.asks) lines spell total book told stands sound)
 
@@ -30,7 +32,8 @@ returns-in-Sweep-clause-does g c = λ lines spell total book told stands sound.
     let line = c.args.line.now in
     let old = c.args.live.now in
     let new = c.answer_step.new.live in
-    lines_so 1 (lines ++ Some line ∷ []) (lines ++ unless_empty (Some line)) total (held_with total book (held_by old)) c.answer_step.result (view (pages old)) (view (pages new)) (held_by new) (sent (pages old)) (sent (pages new))
+    lines_so 1 (lines ++ Some line ∷ []) (lines ++ unless_empty (Some line)) total (held_with total book (held_by old)) c.answer_step.result
+    (view (pages old)) (view (pages new)) (held_by new) (sent (pages old)) (sent (pages new))
     (ap (λ l. lines ++ l) (sym (said (Some line) (says_text line c.requires.some))))
     (c.answer_step.ensures.does line (sym c.requires.asks ∙ c.in-Sweep.is) lines spell total book told stands sound)
 
@@ -40,8 +43,10 @@ returns-in-List-clause-sends g c = λ lines spell.
     let line = c.args.line.now in
     let old = c.args.live.now in
     let new = c.answer_asked.new.live in
-    sends_so MayAnswerHost followed_behind c.answer_asked.result (lines ++ Some line ∷ []) (lines ++ unless_empty (Some line)) (watched old) (watched new) (sent (pages old)) (sent (pages new))
-    (ap (λ l. lines ++ l) (sym (said (Some line) (says_text line c.requires.some)))) (c.answer_asked.ensures.sends line (sym c.requires.asks) lines spell)
+    sends_so MayAnswerHost followed_behind c.answer_asked.result (lines ++ Some line ∷ []) (lines ++ unless_empty (Some line)) (watched old)
+    (watched new) (sent (pages old)) (sent (pages new))
+    (ap (λ l. lines ++ l) (sym (said (Some line) (says_text line c.requires.some))))
+    (c.answer_asked.ensures.sends line (sym c.requires.asks) lines spell)
 
 pub returns-in-Sweep-clause-sends : goal.returns-in-Sweep-clause-sends
 returns-in-Sweep-clause-sends g c = λ lines spell.
@@ -49,8 +54,10 @@ returns-in-Sweep-clause-sends g c = λ lines spell.
     let line = c.args.line.now in
     let old = c.args.live.now in
     let new = c.answer_step.new.live in
-    sends_so MayAnswerHost followed_behind c.answer_step.result (lines ++ Some line ∷ []) (lines ++ unless_empty (Some line)) (watched old) (watched new) (sent (pages old)) (sent (pages new))
-    (ap (λ l. lines ++ l) (sym (said (Some line) (says_text line c.requires.some)))) (c.answer_step.ensures.sends line (sym c.requires.asks ∙ c.in-Sweep.is) lines spell)
+    sends_so MayAnswerHost followed_behind c.answer_step.result (lines ++ Some line ∷ []) (lines ++ unless_empty (Some line)) (watched old)
+    (watched new) (sent (pages old)) (sent (pages new))
+    (ap (λ l. lines ++ l) (sym (said (Some line) (says_text line c.requires.some))))
+    (c.answer_step.ensures.sends line (sym c.requires.asks ∙ c.in-Sweep.is) lines spell)
 
 pub returns-in-List-clause-blames : goal.returns-in-List-clause-blames
 returns-in-List-clause-blames g c = λ lines spell.
@@ -58,8 +65,11 @@ returns-in-List-clause-blames g c = λ lines spell.
     let line = c.args.line.now in
     let old = c.args.live.now in
     let new = c.answer_asked.new.live in
-    lines_blame MayAnswerHost followed_behind BlamesHost (shown.IsTold (its.service new)) (its.view new).size (its.view new).image c.answer_asked.result (lines ++ Some line ∷ []) (lines ++ unless_empty (Some line)) (watched old) (sent (pages old)) (sent (pages new))
-    (ap (λ l. lines ++ l) (sym (said (Some line) (says_text line c.requires.some)))) (c.answer_asked.ensures.blames line (sym c.requires.asks) lines spell)
+    lines_blame MayAnswerHost followed_behind BlamesHost (shown.IsTold (its.service new)) (its.view new).size
+    (its.view new).image c.answer_asked.result (lines ++ Some line ∷ []) (lines ++ unless_empty (Some line)) (watched old)
+    (sent (pages old)) (sent (pages new))
+    (ap (λ l. lines ++ l) (sym (said (Some line) (says_text line c.requires.some))))
+    (c.answer_asked.ensures.blames line (sym c.requires.asks) lines spell)
 
 pub returns-in-Sweep-clause-blames : goal.returns-in-Sweep-clause-blames
 returns-in-Sweep-clause-blames g c = λ lines spell.
@@ -67,5 +77,8 @@ returns-in-Sweep-clause-blames g c = λ lines spell.
     let line = c.args.line.now in
     let old = c.args.live.now in
     let new = c.answer_step.new.live in
-    lines_blame MayAnswerHost followed_behind BlamesHost (shown.IsTold (its.service new)) (its.view new).size (its.view new).image c.answer_step.result (lines ++ Some line ∷ []) (lines ++ unless_empty (Some line)) (watched old) (sent (pages old)) (sent (pages new))
-    (ap (λ l. lines ++ l) (sym (said (Some line) (says_text line c.requires.some)))) (c.answer_step.ensures.blames line (sym c.requires.asks ∙ c.in-Sweep.is) lines spell)
+    lines_blame MayAnswerHost followed_behind BlamesHost (shown.IsTold (its.service new)) (its.view new).size
+    (its.view new).image c.answer_step.result (lines ++ Some line ∷ []) (lines ++ unless_empty (Some line)) (watched old)
+    (sent (pages old)) (sent (pages new))
+    (ap (λ l. lines ++ l) (sym (said (Some line) (says_text line c.requires.some))))
+    (c.answer_step.ensures.blames line (sym c.requires.asks ∙ c.in-Sweep.is) lines spell)

@@ -30,9 +30,12 @@ returns-in-Ok-clause-does g c = λ lines spell total book told stands sound.
     let second = e.does total first.done.book (c.in-Ok.ensures.goes.is_told told) first.done.stands first.done.sound in
     let none : edits_of more ≡ [] = no_edits c.args.line.now c.requires.other in
     let same : (view (pages new)).syncs ≡ (view (pages mid)).syncs = omega (arith, e.syncs, e.rises, ap length none) in
-    host_then 1 0 lines more total (held_with total book (held_by old)) (held_by mid) (held_by new) (view (pages old)) (view (pages mid)) (view (pages new)) (sent (pages old)) (sent (pages mid)) (sent (pages new)) first.done
+    host_then 1 0 lines more total (held_with total book (held_by old)) (held_by mid) (held_by new) (view (pages old)) (view (pages mid))
+    (view (pages new)) (sent (pages old)) (sent (pages mid)) (sent (pages new)) first.done
     (w.counts_sent (pages old)) (w.counts_sent (pages mid)) first.moments c.answer_line.result
-    (live_does more (passed_line c.args.line.now c.requires.passed) total (held_with total first.done.book (held_by mid)) c.answer_line.result (view (pages mid)) (view (pages new)) (held_by new) (sent (pages mid)) (sent (pages new)) same second)
+    (live_does more (passed_line c.args.line.now c.requires.passed) total
+    (held_with total first.done.book (held_by mid)) c.answer_line.result (view (pages mid)) (view (pages new)) (held_by new)
+    (sent (pages mid)) (sent (pages new)) same second)
 
 pub returns-in-Err-clause-does : goal.returns-in-Err-clause-does
 returns-in-Err-clause-does g c = λ lines spell total book told stands sound.
@@ -40,7 +43,8 @@ returns-in-Err-clause-does g c = λ lines spell total book told stands sound.
     let sent = g.P.Streams.sent in
     let old = c.args.live.now in
     let new = c.settle.new.live in
-    fails_wide 1 lines (unless_empty (Some c.args.line.now)) total (held_with total book (held_by old)) c.in-Err.end (view (pages old)) (view (pages new)) (held_by new) (sent (pages old)) (sent (pages new))
+    fails_wide 1 lines (unless_empty (Some c.args.line.now)) total (held_with total book (held_by old)) c.in-Err.end (view (pages old))
+    (view (pages new)) (held_by new) (sent (pages old)) (sent (pages new))
     (c.in-Err.ensures.does lines spell total book told stands sound)
 
 pub returns-in-Ok-clause-sends : goal.returns-in-Ok-clause-sends
@@ -52,8 +56,10 @@ returns-in-Ok-clause-sends g c = λ lines spell.
     let more = unless_empty (Some c.args.line.now) in
     let between = watched mid in
     let behind = watched new in
-    sends_then MayAnswerHost followed_behind c.answer_line.result lines more (watched old) between behind (sent (pages old)) (sent (pages mid)) (sent (pages new)) (c.in-Ok.ensures.sends lines spell)
-    (sends_host c.answer_line.result more between behind (sent (pages mid)) (sent (pages new)) (passed_line c.args.line.now c.requires.passed) c.answer_line.ensures.sends)
+    sends_then MayAnswerHost followed_behind c.answer_line.result lines more (watched old) between behind (sent (pages old))
+    (sent (pages mid)) (sent (pages new)) (c.in-Ok.ensures.sends lines spell)
+    (sends_host c.answer_line.result more between behind (sent (pages mid)) (sent (pages new))
+    (passed_line c.args.line.now c.requires.passed) c.answer_line.ensures.sends)
 
 pub returns-in-Ok-clause-blames : goal.returns-in-Ok-clause-blames
 returns-in-Ok-clause-blames g c = λ lines spell.
@@ -61,8 +67,12 @@ returns-in-Ok-clause-blames g c = λ lines spell.
     let old = c.args.live.now in
     let mid = c.settle.new.live in
     let new = c.answer_line.new.live in
-    behind_blames MayAnswerHost followed_behind BlamesHost (shown.IsTold (its.service new)) (its.view new).size (its.view new).image c.answer_line.result lines (unless_empty (Some c.args.line.now)) (watched old) (watched mid) (sent (pages old)) (sent (pages mid)) (sent (pages new)) (c.in-Ok.ensures.sends lines spell)
-    (host_blames (shown.IsTold (its.service new)) (its.view new).size (its.view new).image c.answer_line.result (unless_empty (Some c.args.line.now)) (watched mid) (sent (pages mid)) (sent (pages new)) (passed_line c.args.line.now c.requires.passed) c.answer_line.ensures.blames)
+    behind_blames MayAnswerHost followed_behind BlamesHost (shown.IsTold (its.service new)) (its.view new).size
+    (its.view new).image c.answer_line.result lines (unless_empty (Some c.args.line.now)) (watched old) (watched mid) (sent (pages old))
+    (sent (pages mid)) (sent (pages new)) (c.in-Ok.ensures.sends lines spell)
+    (host_blames (shown.IsTold (its.service new)) (its.view new).size (its.view new).image c.answer_line.result
+    (unless_empty (Some c.args.line.now)) (watched mid) (sent (pages mid)) (sent (pages new))
+    (passed_line c.args.line.now c.requires.passed) c.answer_line.ensures.blames)
 
 pub returns-in-Err-clause-blames : goal.returns-in-Err-clause-blames
 returns-in-Err-clause-blames g c = λ lines spell.
@@ -70,4 +80,5 @@ returns-in-Err-clause-blames g c = λ lines spell.
     let old = c.args.live.now in
     let new = c.settle.new.live in
     let failed : Result ⊤ _ = Err c.in-Err.end in
-    before_blames (shown.IsTold (its.service new)) (its.view new).size (its.view new).image failed lines (unless_empty (Some c.args.line.now)) (watched old) (sent (pages old)) (sent (pages new)) (c.in-Err.ensures.blames lines spell)
+    before_blames (shown.IsTold (its.service new)) (its.view new).size (its.view new).image failed lines
+    (unless_empty (Some c.args.line.now)) (watched old) (sent (pages old)) (sent (pages new)) (c.in-Err.ensures.blames lines spell)

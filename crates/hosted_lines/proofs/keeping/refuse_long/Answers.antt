@@ -23,9 +23,11 @@ returns-in-Ok-clause-does g c = λ lines spell total book told stands sound.
     let first = c.in-Ok.ensures.does lines spell total book told stands sound in
     let e = c.refuse_line.ensures in
     let second = e.does total first.done.book (c.in-Ok.ensures.goes.is_told told) first.done.stands first.done.sound in
-    host_then 1 0 lines (None ∷ []) total (held_with total book (held_by old)) (held_by mid) (held_by new) (view (pages old)) (view (pages mid)) (view (pages new)) (sent (pages old)) (sent (pages mid)) (sent (pages new)) first.done
+    host_then 1 0 lines (None ∷ []) total (held_with total book (held_by old)) (held_by mid) (held_by new) (view (pages old))
+    (view (pages mid)) (view (pages new)) (sent (pages old)) (sent (pages mid)) (sent (pages new)) first.done
     (w.counts_sent (pages old)) (w.counts_sent (pages mid)) first.moments c.refuse_line.result
-    (live_does (None ∷ []) (tt, tt) total (held_with total first.done.book (held_by mid)) c.refuse_line.result (view (pages mid)) (view (pages new)) (held_by new) (sent (pages mid)) (sent (pages new)) e.syncs second)
+    (live_does (None ∷ []) (tt, tt) total (held_with total first.done.book (held_by mid)) c.refuse_line.result (view (pages mid))
+    (view (pages new)) (held_by new) (sent (pages mid)) (sent (pages new)) e.syncs second)
 
 pub returns-in-Err-clause-does : goal.returns-in-Err-clause-does
 returns-in-Err-clause-does g c = λ lines spell total book told stands sound.
@@ -33,7 +35,8 @@ returns-in-Err-clause-does g c = λ lines spell total book told stands sound.
     let sent = g.P.Streams.sent in
     let old = c.args.live.now in
     let new = c.settle.new.live in
-    fails_wide 1 lines (None ∷ []) total (held_with total book (held_by old)) c.in-Err.end (view (pages old)) (view (pages new)) (held_by new) (sent (pages old)) (sent (pages new))
+    fails_wide 1 lines (None ∷ []) total (held_with total book (held_by old)) c.in-Err.end (view (pages old)) (view (pages new))
+    (held_by new) (sent (pages old)) (sent (pages new))
     (c.in-Err.ensures.does lines spell total book told stands sound)
 
 pub returns-in-Ok-clause-sends : goal.returns-in-Ok-clause-sends
@@ -44,7 +47,8 @@ returns-in-Ok-clause-sends g c = λ lines spell.
     let new = c.refuse_line.new.live in
     let between = watched mid in
     let behind = watched new in
-    sends_then MayAnswerHost followed_behind c.refuse_line.result lines (None ∷ []) (watched old) between behind (sent (pages old)) (sent (pages mid)) (sent (pages new)) (c.in-Ok.ensures.sends lines spell)
+    sends_then MayAnswerHost followed_behind c.refuse_line.result lines (None ∷ []) (watched old) between behind (sent (pages old))
+    (sent (pages mid)) (sent (pages new)) (c.in-Ok.ensures.sends lines spell)
     (sends_host c.refuse_line.result (None ∷ []) between behind (sent (pages mid)) (sent (pages new)) (tt, tt) c.refuse_line.ensures.sends)
 
 pub returns-in-Ok-clause-blames : goal.returns-in-Ok-clause-blames
@@ -53,8 +57,11 @@ returns-in-Ok-clause-blames g c = λ lines spell.
     let old = c.args.live.now in
     let mid = c.settle.new.live in
     let new = c.refuse_line.new.live in
-    behind_blames MayAnswerHost followed_behind BlamesHost (shown.IsTold (its.service new)) (its.view new).size (its.view new).image c.refuse_line.result lines (None ∷ []) (watched old) (watched mid) (sent (pages old)) (sent (pages mid)) (sent (pages new)) (c.in-Ok.ensures.sends lines spell)
-    (host_blames (shown.IsTold (its.service new)) (its.view new).size (its.view new).image c.refuse_line.result (None ∷ []) (watched mid) (sent (pages mid)) (sent (pages new)) (tt, tt) c.refuse_line.ensures.blames)
+    behind_blames MayAnswerHost followed_behind BlamesHost (shown.IsTold (its.service new)) (its.view new).size
+    (its.view new).image c.refuse_line.result lines (None ∷ []) (watched old) (watched mid) (sent (pages old)) (sent (pages mid))
+    (sent (pages new)) (c.in-Ok.ensures.sends lines spell)
+    (host_blames (shown.IsTold (its.service new)) (its.view new).size (its.view new).image c.refuse_line.result (None ∷ []) (watched mid)
+    (sent (pages mid)) (sent (pages new)) (tt, tt) c.refuse_line.ensures.blames)
 
 pub returns-in-Err-clause-blames : goal.returns-in-Err-clause-blames
 returns-in-Err-clause-blames g c = λ lines spell.
@@ -62,4 +69,5 @@ returns-in-Err-clause-blames g c = λ lines spell.
     let old = c.args.live.now in
     let new = c.settle.new.live in
     let failed : Result ⊤ _ = Err c.in-Err.end in
-    before_blames (shown.IsTold (its.service new)) (its.view new).size (its.view new).image failed lines (None ∷ []) (watched old) (sent (pages old)) (sent (pages new)) (c.in-Err.ensures.blames lines spell)
+    before_blames (shown.IsTold (its.service new)) (its.view new).size (its.view new).image failed lines (None ∷ []) (watched old)
+    (sent (pages old)) (sent (pages new)) (c.in-Err.ensures.blames lines spell)

@@ -45,13 +45,18 @@ returns-in-Ok-clause-does g c = λ line asks total book told stands sound.
     let S : Image → Type 0 = λ i. StandsForBook i total book in
     let same = held_same _ _ _ _ _ _ made.beside.changed.sessions made.beside.followed_same made.beside.pending_same
     ∙ held_same _ _ _ _ _ _ e.sessions c.in-Ok.ensures.followed c.in-Ok.ensures.pending in
-    report_sends line total book (held_by old) c.requires.idle frame (subst F (sym asks) (e.reply total book told stands)) e.fits sound (held_by new) same
+    report_sends line total book (held_by old) c.requires.idle frame (subst F (sym asks) (e.reply total book told stands)) e.fits sound
+    (held_by new) same
     (view at) (view between) (view at') (sent at) (sent between) (sent at') (subst S (sym (e.looks.image told)) stands)
-    (report_moments line total book (held_by old) c.requires.idle (view at) (view between) (g.met.P.Pages.rests at c.requires.may.sound) stands e.looks.time)
+    (report_moments line total book (held_by old) c.requires.idle (view at) (view between)
+    (g.met.P.Pages.rests at c.requires.may.sound) stands e.looks.time)
     (sent_same (view at) (view between) _ e.looks.time)
     (sym (w.beside_sent between) ∙ ap (λ (b : Beside). b.sent) e.looks.beside ∙ w.beside_sent at)
-    (report_costs line total book (held_by old) c.requires.idle (view at).reads (view between).reads (view at).syncs (view between).syncs (subst R (sym asks) (e.reads_over total book told stands)) e.looks.syncs)
-    (w.send_keeps n between at' sends) c.send_frame.result made.whole made.stops (g.met.P.Pages.rests between (e.looks.fit c.requires.may.sound)) (w.send_passes n between at' sends) (w.send_counts n between at' sends)
+    (report_costs line total book (held_by old) c.requires.idle (view at).reads (view between).reads (view at).syncs (view between).syncs
+    (subst R (sym asks) (e.reads_over total book told stands)) e.looks.syncs)
+    (w.send_keeps n between at' sends) c.send_frame.result made.whole made.stops
+    (g.met.P.Pages.rests between (e.looks.fit c.requires.may.sound)) (w.send_passes n between at' sends)
+    (w.send_counts n between at' sends)
 
 pub returns-in-Err-clause-does : goal.returns-in-Err-clause-does
 returns-in-Err-clause-does g c = λ line asks total book told stands sound.
@@ -65,27 +70,33 @@ returns-in-Err-clause-does g c = λ line asks total book told stands sound.
     let e = c.in-Err.ensures.makes in
     let R : HostLine → Type 0 = λ a. ReadsReportOver book a (view at).reads (view between).reads in
     let S : Image → Type 0 = λ i. StandsForBook i total book in
-    report_unmade line total book (held_by old) c.requires.idle c.in-Err.error c.step_end.result (held_by mid) (view at) (view between) (sent at) (sent between) c.step_end.ensures (e.standing total book told stands)
+    report_unmade line total book (held_by old) c.requires.idle c.in-Err.error c.step_end.result (held_by mid) (view at) (view between)
+    (sent at) (sent between) c.step_end.ensures (e.standing total book told stands)
     (subst S (sym (e.looks.image told)) stands)
     (sym (w.beside_sent between) ∙ ap (λ (b : Beside). b.sent) e.looks.beside ∙ w.beside_sent at)
-    (report_moments line total book (held_by old) c.requires.idle (view at) (view between) (g.met.P.Pages.rests at c.requires.may.sound) stands e.looks.time)
-    (report_costs line total book (held_by old) c.requires.idle (view at).reads (view between).reads (view at).syncs (view between).syncs (subst R (sym asks) (e.reads_over total book told stands)) e.looks.syncs)
+    (report_moments line total book (held_by old) c.requires.idle (view at) (view between)
+    (g.met.P.Pages.rests at c.requires.may.sound) stands e.looks.time)
+    (report_costs line total book (held_by old) c.requires.idle (view at).reads (view between).reads (view at).syncs (view between).syncs
+    (subst R (sym asks) (e.reads_over total book told stands)) e.looks.syncs)
 
 pub returns-in-Err-clause-cause : goal.returns-in-Err-clause-cause
 returns-in-Err-clause-cause g c =
     let side = side_of g.P.Streams in
     let e = c.in-Err.ensures.makes in
-    unmade_cause c.args.asked.now c.in-Err.error c.step_end.result (side c.args.live.now) (side c.make_report.new.live) c.step_end.ensures (e.looks.fit c.requires.may.sound) e.cause
+    unmade_cause c.args.asked.now c.in-Err.error c.step_end.result (side c.args.live.now) (side c.make_report.new.live) c.step_end.ensures
+    (e.looks.fit c.requires.may.sound) e.cause
 
 pub returns-in-Ok-clause-faults : goal.returns-in-Ok-clause-faults
 returns-in-Ok-clause-faults g c =
     let view = g.P.Pages.view in
-    counts_then (fault_in end_fault c.send_frame.result) (view (pages c.args.live.now)) (view (pages c.make_report.new.live)) (view (pages c.send_frame.new.live)) c.in-Ok.ensures.makes.faults c.send_frame.ensures.faults
+    counts_then (fault_in end_fault c.send_frame.result) (view (pages c.args.live.now)) (view (pages c.make_report.new.live))
+    (view (pages c.send_frame.new.live)) c.in-Ok.ensures.makes.faults c.send_frame.ensures.faults
 
 pub returns-in-Err-clause-faults : goal.returns-in-Err-clause-faults
 returns-in-Err-clause-faults g c =
     let view = g.P.Pages.view in
-    unmade_counts c.in-Err.error c.step_end.result (view (pages c.args.live.now)) (view (pages c.make_report.new.live)) c.step_end.ensures c.in-Err.ensures.makes.faults
+    unmade_counts c.in-Err.error c.step_end.result (view (pages c.args.live.now))
+    (view (pages c.make_report.new.live)) c.step_end.ensures c.in-Err.ensures.makes.faults
 
 pub returns-in-Ok-clause-sends : goal.returns-in-Ok-clause-sends
 returns-in-Ok-clause-sends g c = λ line asks.
@@ -97,8 +108,11 @@ returns-in-Ok-clause-sends g c = λ line asks.
     let frame = c.in-Ok.frame in
     let e = c.in-Ok.ensures.makes in
     let made = c.send_frame.ensures in
-    sends_answer MayAnswerHost followed_behind c.send_frame.result frame (watched old) (watched mid) (watched new) (sent (pages old)) (sent (pages mid)) (sent (pages new)) e.fits e.opens
-    (watched_same (watched new) (watched mid) made.beside.changed.sessions made.beside.followed_same) (sym (w.beside_sent (pages mid)) ∙ ap (λ (b : Beside). b.sent) e.looks.beside ∙ w.beside_sent (pages old)) made.whole (Some line) (may_report line c.args.asked.now frame asks e.may)
+    sends_answer MayAnswerHost followed_behind c.send_frame.result frame (watched old) (watched mid) (watched new) (sent (pages old))
+    (sent (pages mid)) (sent (pages new)) e.fits e.opens
+    (watched_same (watched new) (watched mid) made.beside.changed.sessions made.beside.followed_same) (sym (w.beside_sent (pages mid))
+    ∙ ap (λ (b : Beside). b.sent) e.looks.beside
+    ∙ w.beside_sent (pages old)) made.whole (Some line) (may_report line c.args.asked.now frame asks e.may)
     (report_after line c.args.asked.now frame (follows.followed old) (follows.followed mid) asks e.may c.in-Ok.ensures.followed)
     (report_lasts line c.args.asked.now frame (watched old).sessions (watched mid).sessions asks e.may e.sessions)
 
@@ -113,7 +127,10 @@ returns-in-Err-clause-blames g c = λ line asks.
     let mid = c.make_report.new.live in
     let e = c.in-Err.ensures.makes in
     let is_told = shown.IsTold (its.service mid) in
-    let unsent : sent (pages mid) ≡ sent (pages old) = sym (w.beside_sent (pages mid)) ∙ ap (λ (b : Beside). b.sent) e.looks.beside ∙ w.beside_sent (pages old) in
-    step_damaged c.in-Err.error c.step_end.result _ (λ error. IsReportCause c.args.asked.now error is_told (its.view old) (its.view mid)) c.step_end.ensures e.cause
-    (λ page cause. blames_now MayAnswerHost followed_behind BlamesHost is_told (its.view mid).size (its.view mid).image page (Some line ∷ []) (watched old) (sent (pages old)) (sent (pages mid)) unsent
+    let unsent : sent (pages mid) ≡ sent (pages old) = sym (w.beside_sent (pages mid)) ∙ ap (λ (b : Beside). b.sent) e.looks.beside
+    ∙ w.beside_sent (pages old) in
+    step_damaged c.in-Err.error c.step_end.result _
+    (λ error. IsReportCause c.args.asked.now error is_told (its.view old) (its.view mid)) c.step_end.ensures e.cause
+    (λ page cause. blames_now MayAnswerHost followed_behind BlamesHost is_told (its.view mid).size (its.view mid).image page
+    (Some line ∷ []) (watched old) (sent (pages old)) (sent (pages mid)) unsent
     (inl (report_blamed line c.args.asked.now _ is_told (its.view old) (its.view mid) page asks cause)))

@@ -19,7 +19,8 @@ returns-then-is_empty-clause-does g c = λ lines spell total book told stands so
     let at = pages c.args.live.now in
     let held = held_by c.args.live.now in
     let none : length c.args.edits.now ≡ 0 = grind (arith, common_steps) in
-    lines_so 1 [] lines total (held_with total book held) _ (g.P.Pages.view at) (g.P.Pages.view at) held (g.P.Streams.sent at) (g.P.Streams.sent at) (sym (spell_none lines c.args.edits.now none spell))
+    lines_so 1 [] lines total (held_with total book held) _ (g.P.Pages.view at) (g.P.Pages.view at) held (g.P.Streams.sent at)
+    (g.P.Streams.sent at) (sym (spell_none lines c.args.edits.now none spell))
     (none_hosts 1 _ total book held (g.P.Pages.view at) (g.P.Streams.sent at) stands sound)
 
 pub returns-in-Ok-clause-does : goal.returns-in-Ok-clause-does
@@ -32,10 +33,13 @@ returns-in-Ok-clause-does g c = λ lines spell total book told stands sound.
     let new = c.send_pushes.new.live in
     let first = c.in-Ok.ensures.does lines spell total book told stands sound in
     let second = c.send_pushes.ensures.does total first.done.book (c.in-Ok.ensures.goes.is_told told) first.done.stands first.done.sound in
-    lines_so 1 _ lines total (held_with total book (held_by old)) c.send_pushes.result (view (pages old)) (view (pages new)) (held_by new) (sent (pages old)) (sent (pages new)) (append-nil lines)
-    (host_then 1 0 lines [] total (held_with total book (held_by old)) (held_by mid) (held_by new) (view (pages old)) (view (pages mid)) (view (pages new)) (sent (pages old)) (sent (pages mid)) (sent (pages new)) first.done
+    lines_so 1 _ lines total (held_with total book (held_by old)) c.send_pushes.result (view (pages old)) (view (pages new)) (held_by new)
+    (sent (pages old)) (sent (pages new)) (append-nil lines)
+    (host_then 1 0 lines [] total (held_with total book (held_by old)) (held_by mid) (held_by new) (view (pages old)) (view (pages mid))
+    (view (pages new)) (sent (pages old)) (sent (pages mid)) (sent (pages new)) first.done
     (w.counts_sent (pages old)) (w.counts_sent (pages mid)) first.moments c.send_pushes.result
-    (live_does [] tt total (held_with total first.done.book (held_by mid)) c.send_pushes.result (view (pages mid)) (view (pages new)) (held_by new) (sent (pages mid)) (sent (pages new)) c.send_pushes.ensures.syncs second))
+    (live_does [] tt total (held_with total first.done.book (held_by mid)) c.send_pushes.result (view (pages mid)) (view (pages new))
+    (held_by new) (sent (pages mid)) (sent (pages new)) c.send_pushes.ensures.syncs second))
 
 pub returns-then-is_empty-clause-sends : goal.returns-then-is_empty-clause-sends
 returns-then-is_empty-clause-sends g c = λ lines spell.
@@ -55,7 +59,8 @@ returns-in-Ok-clause-sends g c = λ lines spell.
     let between = watched mid in
     let behind = watched new in
     sends_so MayAnswerHost followed_behind c.send_pushes.result _ lines own behind (sent (pages old)) (sent (pages new)) (append-nil lines)
-    (sends_then MayAnswerHost followed_behind c.send_pushes.result lines [] own between behind (sent (pages old)) (sent (pages mid)) (sent (pages new)) (c.in-Ok.ensures.sends lines spell)
+    (sends_then MayAnswerHost followed_behind c.send_pushes.result lines [] own between behind (sent (pages old)) (sent (pages mid))
+    (sent (pages new)) (c.in-Ok.ensures.sends lines spell)
     (sends_host c.send_pushes.result [] between behind (sent (pages mid)) (sent (pages new)) tt c.send_pushes.ensures.sends))
 
 pub returns-in-Ok-clause-blames : goal.returns-in-Ok-clause-blames
@@ -64,6 +69,10 @@ returns-in-Ok-clause-blames g c = λ lines spell.
     let old = c.args.live.now in
     let mid = c.answer_group.new.live in
     let new = c.send_pushes.new.live in
-    lines_blame MayAnswerHost followed_behind BlamesHost (shown.IsTold (its.service new)) (its.view new).size (its.view new).image c.send_pushes.result (lines ++ []) lines (watched old) (sent (pages old)) (sent (pages new)) (append-nil lines)
-    (behind_blames MayAnswerHost followed_behind BlamesHost (shown.IsTold (its.service new)) (its.view new).size (its.view new).image c.send_pushes.result lines [] (watched old) (watched mid) (sent (pages old)) (sent (pages mid)) (sent (pages new)) (c.in-Ok.ensures.sends lines spell)
-    (host_blames (shown.IsTold (its.service new)) (its.view new).size (its.view new).image c.send_pushes.result [] (watched mid) (sent (pages mid)) (sent (pages new)) tt c.send_pushes.ensures.blames))
+    lines_blame MayAnswerHost followed_behind BlamesHost (shown.IsTold (its.service new)) (its.view new).size
+    (its.view new).image c.send_pushes.result (lines ++ []) lines (watched old) (sent (pages old)) (sent (pages new)) (append-nil lines)
+    (behind_blames MayAnswerHost followed_behind BlamesHost (shown.IsTold (its.service new)) (its.view new).size
+    (its.view new).image c.send_pushes.result lines [] (watched old) (watched mid) (sent (pages old)) (sent (pages mid))
+    (sent (pages new)) (c.in-Ok.ensures.sends lines spell)
+    (host_blames (shown.IsTold (its.service new)) (its.view new).size (its.view new).image c.send_pushes.result [] (watched mid)
+    (sent (pages mid)) (sent (pages new)) tt c.send_pushes.ensures.blames))

@@ -45,4 +45,5 @@ returns-else-columns-gt0 c =
     let is_to : to_z w128 (of_z w128 c.args.q.y) ≡ c.args.q.y = omega (arith, ints) in
     let is_rows : c.abs_diff-rows.result ≡ rows c.args.p c.args.q = c.abs_diff-rows.ensures ∙ (λ t. unsigned_abs (is_to t -ℤ is_from t)) in
     let wide : rows c.args.p c.args.q ≤ columns c.args.p c.args.q = omega (arith, is_rows, c.from.ensures, c.if-rows-from.false) in
-    alike _ _ _ _ c.column_fill.ensures (λ x y column row. on_dot c.args.p c.args.q _ x (pos y) is_from wide (omega (arith, c.if-columns-gt0.false)))
+    alike _ _ _ _ c.column_fill.ensures (λ x y column row. on_dot c.args.p c.args.q _ x (pos y) is_from wide
+    (omega (arith, c.if-columns-gt0.false)))

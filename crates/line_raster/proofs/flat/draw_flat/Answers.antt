@@ -13,7 +13,8 @@ next_moved-moved-requires-clause-near c =
     let is_to : to_z w128 (of_z w128 c.args.q.y) ≡ c.args.q.y = omega (arith, ints) in
     let is_rows : c.abs_diff-rows.result ≡ rows c.args.p c.args.q = c.abs_diff-rows.ensures ∙ (λ t. unsigned_abs (is_to t -ℤ is_from t)) in
     let share = moved_share _ _ _ _ _ c.loop-n.invariant.moves in
-    let part = share-le (columns c.args.p c.args.q) (rows c.args.p c.args.q) c.loop-n.n (omega (arith, c.requires.order)) (omega (arith, c.loop-n-test.true, c.from-columns.ensures)) in
+    let part = share-le (columns c.args.p c.args.q) (rows c.args.p c.args.q) c.loop-n.n (omega (arith, c.requires.order))
+    (omega (arith, c.loop-n-test.true, c.from-columns.ensures)) in
     omega (arith, is_rows, share, part)
 
 pub loop-n-preserved : goal.loop-n-preserved
@@ -24,10 +25,13 @@ loop-n-preserved c =
     let n = c.loop-n.n in
     let reached : n ≤ columns c.args.p c.args.q = omega (arith, c.loop-n-test.true, c.from-columns.ensures) in
     record {
-      drawn = next_column (λ a b. InColumn c.args.p c.args.q a (pos b)) _ (c.args.p.x + n) (c.args.p.x + (n + 1)) _ _ _ (omega arith) c.loop-n.invariant.drawn c.blacken_moved.ensures
+      drawn = next_column (λ a b. InColumn c.args.p c.args.q a (pos b)) _ (c.args.p.x + n) (c.args.p.x + (n + 1)) _ _ _
+          (omega arith) c.loop-n.invariant.drawn c.blacken_moved.ensures
           (λ x y column row.
-          flat_step c.args.p c.args.q _ _ (c.args.p.x + n) n c.loop-n.moved.rows is_from is_to c.requires.wide (omega (arith, c.requires.order)) (omega arith) reached (moved_share _ _ _ _ _ c.loop-n.invariant.moves) x (pos y));
-      moves = moved_more _ c.abs_diff-rows.result _ c.from-columns.result n _ _ _ _ is_rows c.from-columns.ensures c.next_moved-moved.ensures.sum c.next_moved-moved.ensures.small c.loop-n.invariant.moves;
+          flat_step c.args.p c.args.q _ _ (c.args.p.x + n) n c.loop-n.moved.rows is_from is_to c.requires.wide
+          (omega (arith, c.requires.order)) (omega arith) reached (moved_share _ _ _ _ _ c.loop-n.invariant.moves) x (pos y));
+      moves = moved_more _ c.abs_diff-rows.result _ c.from-columns.result n _ _ _ _ is_rows c.from-columns.ensures
+          c.next_moved-moved.ensures.sum c.next_moved-moved.ensures.small c.loop-n.invariant.moves;
     }
 
 pub loop-n-init : goal.loop-n-init
@@ -42,7 +46,13 @@ returns c =
     (λ x y h. omega (arith, h.column, h.reached, c.loop-n-test.false, c.from-columns.ensures))
 
 pub blacken_moved-requires-clause-column : goal.blacken_moved-requires-clause-column
-blacken_moved-requires-clause-column c = omega (arith, c.loop-n.invariant.drawn.width, c.requires.column, c.loop-n-test.true, c.from-columns.ensures)
+blacken_moved-requires-clause-column c = omega (
+  arith,
+  c.loop-n.invariant.drawn.width,
+  c.requires.column,
+  c.loop-n-test.true,
+  c.from-columns.ensures,
+)
 
 pub next_moved-moved-requires-clause-error : goal.next_moved-moved-requires-clause-error
 next_moved-moved-requires-clause-error c = omega (arith, c.loop-n.invariant.moves.small, c.from-columns.ensures)

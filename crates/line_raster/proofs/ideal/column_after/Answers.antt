@@ -16,7 +16,8 @@ part : (c : goal.After-abs_diff-rows) → share c.abs_diff-rows.result c.from-co
 part c = share-le _ _ c.args.n (omega (arith, is_rows c, c.requires.high)) (omega (arith, is_rows c, c.requires.reached))
 
 most : (c : goal.After-abs_diff-rows) → c.args.n * c.from-columns.result ≤ 10 ^ 23 * 2 ^ 16
-most c = mul-le c.args.n c.from-columns.result (10 ^ 23) (2 ^ 16) (omega (arith, c.requires.reached, c.requires.near)) (omega (arith, c.from-columns.ensures))
+most c = mul-le c.args.n c.from-columns.result (10 ^ 23) (2 ^ 16) (omega (arith, c.requires.reached, c.requires.near))
+    (omega (arith, c.from-columns.ensures))
 
 pub overflow_mul-result : goal.overflow_mul-result
 overflow_mul-result c = omega (arith, c.requires.reached, c.requires.near)
@@ -41,7 +42,12 @@ overflow_add-result-2 c =
     let is_from : to_z w128 (of_z w128 c.args.p.y) ≡ c.args.p.y = omega (arith, ints) in
     let is_to : to_z w128 (of_z w128 c.args.q.y) ≡ c.args.q.y = omega (arith, ints) in
     let is_rows : c.abs_diff-rows.result ≡ rows c.args.p c.args.q = c.abs_diff-rows.ensures ∙ (λ t. unsigned_abs (is_to t -ℤ is_from t)) in
-    omega (arith, share-le c.abs_diff-rows.result c.from-columns.result c.args.n (omega (arith, is_rows, c.requires.high)) (omega (arith, is_rows, c.requires.reached)), c.from-columns.ensures)
+    omega (
+      arith,
+      share-le c.abs_diff-rows.result c.from-columns.result c.args.n (omega (arith, is_rows, c.requires.high))
+          (omega (arith, is_rows, c.requires.reached)),
+      c.from-columns.ensures,
+    )
 
 pub returns : goal.returns
 returns c =

@@ -14,7 +14,8 @@ returns-clause-pixel c =
     let is_columns = c.from-columns.ensures in
     let is_share : c.from.result ≡ share (columns c.args.p c.args.q) (rows c.args.p c.args.q) c.from-n.result =
     c.from.ensures ∙ (λ t. (2 * c.from-n.result * is_rows t + is_columns t) / (2 * is_columns t)) in
-    row_pixel c.args.p c.args.q c.args.x c.from-n.result _ c.requires.wide (omega (arith, c.requires.some)) (omega (arith, c.from-n.ensures, c.requires.begun)) (omega (arith, c.from-n.ensures, c.requires.reached))
+    row_pixel c.args.p c.args.q c.args.x c.from-n.result _ c.requires.wide (omega (arith, c.requires.some))
+    (omega (arith, c.from-n.ensures, c.requires.begun)) (omega (arith, c.from-n.ensures, c.requires.reached))
     (is_result ∙ c.row_towards.ensures ∙ (λ t. towards (is_from t) (is_to t) (is_share t)))
 
 pub returns-clause-alone : goal.returns-clause-alone

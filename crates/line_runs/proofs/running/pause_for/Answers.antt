@@ -11,7 +11,8 @@ on_ok {T} {E} (Err e) P Q more is = tt
 
 pub pause-requires : goal.pause-requires
 pause-requires g c = record {
-  fit = g.met.W.LineWork.fit_later c.args.work.now c.args.from.now c.args.lines.now.given g.W.LineWork.limit c.requires.within c.requires.fit;
+  fit = g.met.W.LineWork.fit_later c.args.work.now c.args.from.now c.args.lines.now.given g.W.LineWork.limit c.requires.within
+      c.requires.fit;
 }
 
 pub returns-then-ready-clause-does : goal.returns-then-ready-clause-does

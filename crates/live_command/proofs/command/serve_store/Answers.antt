@@ -19,7 +19,8 @@ use Rattle.live_service.specs.Pushing.{followed_after}
 use Rattle.live_command.proofs.command.serve_store.Goals as goal
 
 pub serve_service-requires-clause-sound : goal.serve_service-requires-clause-sound
-serve_service-requires-clause-sound g c = subst IsTrue (sym (store_sound c.in-Ok.service.store c.args.store c.in-Ok.ensures.store)) c.requires
+serve_service-requires-clause-sound g c = subst IsTrue
+    (sym (store_sound c.in-Ok.service.store c.args.store c.in-Ok.ensures.store)) c.requires
 
 pub returns-in-Ok-clause-serves : goal.returns-in-Ok-clause-serves
 returns-in-Ok-clause-serves g c =
@@ -35,7 +36,8 @@ returns-in-Ok-clause-serves g c =
     let end = c.serve_service.result.0 in
     let D : g.row.W.Denot → Type 0 = λ d. Served (stored.pages made).count (view d) (view new) (traffic left sent reads sends d new) end in
     let C : ℕ → Type 0 = λ n. Served n (view disk) (view new) (traffic left sent reads sends disk new) end in
-    subst C (store_count made store c.in-Ok.ensures.store) (subst D (store_disk made store c.in-Ok.ensures.store) c.serve_service.ensures.serves)
+    subst C (store_count made store c.in-Ok.ensures.store)
+    (subst D (store_disk made store c.in-Ok.ensures.store) c.serve_service.ensures.serves)
 
 pub returns-in-Err-clause-serves : goal.returns-in-Err-clause-serves
 returns-in-Err-clause-serves g c =
@@ -47,7 +49,8 @@ returns-in-Err-clause-serves g c =
     let store = c.args.store in
     let disk = (stored.pages store).disk in
     let back = c.in-Err.field-0.value in
-    let D : g.row.W.Denot → Type 0 = λ d. Served (stored.pages store).count (view disk) (view d) (traffic left sent reads sends disk d) NoMemory in
+    let D : g.row.W.Denot → Type 0 = λ d. Served (stored.pages store).count (view disk) (view d)
+    (traffic left sent reads sends disk d) NoMemory in
     subst D (sym (c.disk_of.ensures.disk ∙ store_disk back store c.in-Err.ensures.back))
     (served_none (stored.pages store).count (view disk) (traffic left sent reads sends disk disk) refl)
 
@@ -59,9 +62,11 @@ returns-in-Ok-clause-reads g c =
     let made = c.in-Ok.service.store in
     let disk = (stored.pages store).disk in
     let new = c.serve_service.result.1 in
-    let D : g.row.W.Denot → Type 0 = λ d. IfSome (left d) (λ input. ReadsFrom (stored.pages made).count (view d) (view new) input (view d).reads) in
+    let D : g.row.W.Denot → Type 0 = λ d. IfSome (left d)
+    (λ input. ReadsFrom (stored.pages made).count (view d) (view new) input (view d).reads) in
     let C : ℕ → Type 0 = λ n. IfSome (left disk) (λ input. ReadsFrom n (view disk) (view new) input (view disk).reads) in
-    subst C (store_count made store c.in-Ok.ensures.store) (subst D (store_disk made store c.in-Ok.ensures.store) c.serve_service.ensures.reads)
+    subst C (store_count made store c.in-Ok.ensures.store)
+    (subst D (store_disk made store c.in-Ok.ensures.store) c.serve_service.ensures.reads)
 
 pub returns-in-Err-clause-reads : goal.returns-in-Err-clause-reads
 returns-in-Err-clause-reads g c =
@@ -70,8 +75,10 @@ returns-in-Err-clause-reads g c =
     let store = c.args.store in
     let disk = (stored.pages store).disk in
     let back = c.in-Err.field-0.value in
-    let D : g.row.W.Denot → Type 0 = λ d. IfSome (left disk) (λ input. ReadsFrom (stored.pages store).count (view disk) (view d) input (view disk).reads) in
-    subst D (sym (c.disk_of.ensures.disk ∙ store_disk back store c.in-Err.ensures.back)) (reads_untaken (stored.pages store).count (view disk) (left disk))
+    let D : g.row.W.Denot → Type 0 = λ d. IfSome (left disk)
+    (λ input. ReadsFrom (stored.pages store).count (view disk) (view d) input (view disk).reads) in
+    subst D (sym (c.disk_of.ensures.disk ∙ store_disk back store c.in-Err.ensures.back))
+    (reads_untaken (stored.pages store).count (view disk) (left disk))
 
 pub returns-in-Ok-clause-syncs : goal.returns-in-Ok-clause-syncs
 returns-in-Ok-clause-syncs g c =
@@ -79,7 +86,8 @@ returns-in-Ok-clause-syncs g c =
     let left = g.W.Streams.left in
     let store = c.args.store in
     let made = c.in-Ok.service.store in
-    let D : g.row.W.Denot → Type 0 = λ d. IfSome (left d) (λ input. SyncsLines input (view d).syncs (view c.serve_service.result.1).syncs) in
+    let D : g.row.W.Denot → Type 0 = λ d. IfSome (left d)
+    (λ input. SyncsLines input (view d).syncs (view c.serve_service.result.1).syncs) in
     subst D (store_disk made store c.in-Ok.ensures.store) c.serve_service.ensures.syncs
 
 pub returns-in-Err-clause-syncs : goal.returns-in-Err-clause-syncs
@@ -89,7 +97,8 @@ returns-in-Err-clause-syncs g c =
     let store = c.args.store in
     let disk = (stored.pages store).disk in
     let D : g.row.W.Denot → Type 0 = λ d. IfSome (left disk) (λ input. SyncsLines input (view disk).syncs (view d).syncs) in
-    subst D (sym (c.disk_of.ensures.disk ∙ store_disk c.in-Err.field-0.value store c.in-Err.ensures.back)) (syncs_nothing (left disk) (view disk).syncs)
+    subst D (sym (c.disk_of.ensures.disk ∙ store_disk c.in-Err.field-0.value store c.in-Err.ensures.back))
+    (syncs_nothing (left disk) (view disk).syncs)
 
 pub returns-in-Ok-clause-faults : goal.returns-in-Ok-clause-faults
 returns-in-Ok-clause-faults g c =
@@ -112,7 +121,8 @@ returns-in-Ok-clause-answers g c =
     let made = c.in-Ok.service.store in
     let new = c.serve_service.result.1 in
     let end = c.serve_service.result.0 in
-    let D : g.row.W.Denot → Type 0 = λ d. end ≡ Done → IfSome (left d) (λ input. SendsAnswers MayAnswerLive followed_after input (sent d) (sent new)) in
+    let D : g.row.W.Denot → Type 0 = λ d. end ≡ Done
+    → IfSome (left d) (λ input. SendsAnswers MayAnswerLive followed_after input (sent d) (sent new)) in
     subst D (store_disk made store c.in-Ok.ensures.store) c.serve_service.ensures.answers
 
 pub returns-in-Ok-clause-blames : goal.returns-in-Ok-clause-blames
@@ -125,6 +135,8 @@ returns-in-Ok-clause-blames g c =
     let disk = (stored.pages store).disk in
     let new = c.serve_service.result.1 in
     let end = c.serve_service.result.0 in
-    let D : g.row.W.Denot → Type 0 = λ d. BlamesOnDisk MayAnswerLive followed_after Blames (stored.pages made).count (view new) (left d) (sent d) (sent new) end in
+    let D : g.row.W.Denot → Type 0 = λ d. BlamesOnDisk MayAnswerLive followed_after Blames (stored.pages made).count (view new) (left d)
+    (sent d) (sent new) end in
     let C : ℕ → Type 0 = λ n. BlamesOnDisk MayAnswerLive followed_after Blames n (view new) (left disk) (sent disk) (sent new) end in
-    subst C (store_count made store c.in-Ok.ensures.store) (subst D (store_disk made store c.in-Ok.ensures.store) c.serve_service.ensures.blames)
+    subst C (store_count made store c.in-Ok.ensures.store)
+    (subst D (store_disk made store c.in-Ok.ensures.store) c.serve_service.ensures.blames)

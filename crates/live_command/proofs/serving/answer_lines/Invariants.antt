@@ -32,11 +32,16 @@ invariant-lines g l =
       idle : follows.IsIdle live;
       goes : Goes (side_of g.P.Streams first) (side_of g.P.Streams live);
       faults : CountsFault None (its.view first) (its.view live);
-      far : its.ForBook first (λ total book. Far (left (pages first)) (unread l.lines (left (pages live))) l.lines.given total (its.state first total book) (its.view live).image (held_by live) (sent (pages first)) (sent (pages live)));
-      read : its.ForBook first (λ total book. FarRead (left (pages first)) (unread l.lines (left (pages live))) l.lines.given total (its.state first total book) (its.view live).image (held_by live) (its.view first).reads (its.view live).reads);
-      synced : FarSynced (left (pages first)) (unread l.lines (left (pages live))) l.lines.given (its.view first).syncs (its.view live).syncs;
-      answered : FarAnswered (left (pages first)) (unread l.lines (left (pages live))) l.lines.given (watched first) (watched live) (sent (pages first)) (sent (pages live));
-      lasts : its.ForBook first (λ total book. LastsOn total (its.state first total book) (left (pages first)) (sent (pages first)) (its.view first) (its.view live));
+      far : its.ForBook first (λ total book. Far (left (pages first)) (unread l.lines (left (pages live))) l.lines.given total
+          (its.state first total book) (its.view live).image (held_by live) (sent (pages first)) (sent (pages live)));
+      read : its.ForBook first (λ total book. FarRead (left (pages first)) (unread l.lines (left (pages live))) l.lines.given total
+          (its.state first total book) (its.view live).image (held_by live) (its.view first).reads (its.view live).reads);
+      synced : FarSynced (left (pages first)) (unread l.lines (left (pages live))) l.lines.given (its.view first).syncs
+          (its.view live).syncs;
+      answered : FarAnswered (left (pages first)) (unread l.lines (left (pages live))) l.lines.given (watched first) (watched live)
+          (sent (pages first)) (sent (pages live));
+      lasts : its.ForBook first (λ total book. LastsOn total (its.state first total book) (left (pages first)) (sent (pages first))
+          (its.view first) (its.view live));
     }
 
 abbrev pub decreases-lines : goal.decreases-lines

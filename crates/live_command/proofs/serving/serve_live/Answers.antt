@@ -11,12 +11,14 @@ use Rattle.live_command.proofs.serving.serve_live.Goals as goal
 pub returns-in_default-clause-ends : goal.returns-in_default-clause-ends
 returns-in_default-clause-ends g c = λ total book told stands.
     let at = pages c.args.live.now in
-    no_memory_on total book (held_by c.args.live.now) (g.P.Streams.left at) (g.P.Streams.left at) (g.P.Streams.sent at) (g.P.Pages.view at).image stands
+    no_memory_on total book (held_by c.args.live.now) (g.P.Streams.left at) (g.P.Streams.left at) (g.P.Streams.sent at)
+    (g.P.Pages.view at).image stands
 
 pub returns-in_default-clause-crash : goal.returns-in_default-clause-crash
 returns-in_default-clause-crash g c = λ total book told stands.
     let at = pages c.args.live.now in
-    lasts_on_first total book (held_by c.args.live.now) (g.P.Streams.left at) (g.P.Streams.sent at) (g.P.Pages.view at) (g.met.P.Pages.rests at c.requires.sound) stands
+    lasts_on_first total book (held_by c.args.live.now) (g.P.Streams.left at) (g.P.Streams.sent at) (g.P.Pages.view at)
+    (g.met.P.Pages.rests at c.requires.sound) stands
 
 pub returns-in_default-clause-reads : goal.returns-in_default-clause-reads
 returns-in_default-clause-reads g c = λ total book told stands.

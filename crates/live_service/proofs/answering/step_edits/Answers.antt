@@ -17,9 +17,12 @@ returns-in-Ok g c =
     let done = e.reply.done in
     let facts = group_facts edits old new done.does in
     record {
-      reply = group_replied (record { answers = λ a l f b x. x; loses = λ a l e b x. x; names = λ it name id x. x; sessions = λ it. refl }) edits c.in-Ok.frames.items old new e.fit e.reply;
+      reply = group_replied (record { answers = λ a l f b x. x; loses = λ a l e b x. x; names = λ it name id x. x; sessions = λ it. refl })
+          edits c.in-Ok.frames.items old new e.fit e.reply;
       standing = λ total book told stands. tt;
-      left = λ total book told stands other. some_of edits (state_of book total old.stepper.service.sessions) old.followed.items old.pending.items (its.view new).image (done.left total book told stands);
+      left = λ total book told stands other. some_of edits
+          (state_of book total old.stepper.service.sessions) old.followed.items old.pending.items (its.view new).image
+          (done.left total book told stands);
       moments = facts.moments;
       reads = facts.reads;
       syncs = facts.syncs;
@@ -52,7 +55,9 @@ returns-in-Err-Stepper g c =
     record {
       reply = λ total book told stands. tt;
       standing = lost.standing;
-      left = λ total book told stands other. some_of edits (state_of book total old.stepper.service.sessions) old.followed.items old.pending.items (its.view new).image (lost.left total book told stands (λ is. other (ap Err is)));
+      left = λ total book told stands other. some_of edits
+          (state_of book total old.stepper.service.sessions) old.followed.items old.pending.items (its.view new).image
+          (lost.left total book told stands (λ is. other (ap Err is)));
       moments = facts.moments;
       reads = facts.reads;
       syncs = facts.syncs;
@@ -84,7 +89,9 @@ returns-in-Err-NoMemory g c =
     record {
       reply = λ total book told stands. tt;
       standing = λ total book told stands. inr refl;
-      left = λ total book told stands other. some_of edits (state_of book total old.stepper.service.sessions) old.followed.items old.pending.items (its.view new).image (done.left total book told stands);
+      left = λ total book told stands other. some_of edits
+          (state_of book total old.stepper.service.sessions) old.followed.items old.pending.items (its.view new).image
+          (done.left total book told stands);
       moments = facts.moments;
       reads = facts.reads;
       syncs = facts.syncs;

@@ -10,7 +10,13 @@ use Rattle.live_service.proofs.answering.step_line.Goals as goal
 pub returns-in-Ok : goal.returns-in-Ok
 returns-in-Ok g c =
     let fit = c.in-Ok.ensures.fit in
-    let facts = line_answered (record { answers = λ old line r new x. x; repeats = λ old session r new x. x; names = λ it name id x. x; sessions = λ it. refl }) (live_line c.args.line.now) c.args.line.now c.in-Ok.frame c.args.live.now c.step_line.new.self refl fit c.in-Ok.ensures.fits c.in-Ok.ensures.reply in
+    let facts = line_answered (record {
+      answers = λ old line r new x. x;
+      repeats = λ old session r new x. x;
+      names = λ it name id x. x;
+      sessions = λ it. refl;
+    }) (live_line c.args.line.now) c.args.line.now c.in-Ok.frame c.args.live.now c.step_line.new.self refl fit
+    c.in-Ok.ensures.fits c.in-Ok.ensures.reply in
     record {
       reply = facts.reply;
       standing = facts.standing;
@@ -20,7 +26,8 @@ returns-in-Ok g c =
       opens = facts.opens;
       lasts = facts.lasts;
       blames = facts.blames;
-      followed = line_after (live_line c.args.line.now) c.args.line.now c.in-Ok.frame c.args.live.now c.step_line.new.self refl facts.may c.in-Ok.ensures.reply;
+      followed = line_after (live_line c.args.line.now) c.args.line.now c.in-Ok.frame c.args.live.now c.step_line.new.self refl facts.may
+          c.in-Ok.ensures.reply;
       fits = c.in-Ok.ensures.fits;
       unchanged = facts.unchanged;
       idle = facts.idle;
@@ -38,7 +45,12 @@ pub returns-in-Err-Stepper : goal.returns-in-Err-Stepper
 returns-in-Err-Stepper g c =
     let F : LiveFault ServiceError → Type 0 = λ f. follows.Fails c.args.line.now f c.args.live.now c.step_line.new.self in
     let fails = subst F c.in-Err-Stepper.field-0-is c.in-Err-Stepper.ensures.fails in
-    let facts = line_failed (record { answers = λ old line r new x. x; repeats = λ old session r new x. x; names = λ it name id x. x; sessions = λ it. refl }) c.args.line.now c.in-Err-Stepper.error c.args.live.now c.step_line.new.self fails in
+    let facts = line_failed (record {
+      answers = λ old line r new x. x;
+      repeats = λ old session r new x. x;
+      names = λ it name id x. x;
+      sessions = λ it. refl;
+    }) c.args.line.now c.in-Err-Stepper.error c.args.live.now c.step_line.new.self fails in
     record {
       reply = facts.reply;
       standing = facts.standing;

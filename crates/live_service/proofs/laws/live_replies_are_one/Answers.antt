@@ -9,4 +9,5 @@ pub returns-clause-pushes : goal.returns-clause-pushes
 returns-clause-pushes c = λ frame other old new behind a b. push_one frame other old new behind c.replies_are_one.ensures.request a b
 
 pub returns-clause-groups : goal.returns-clause-groups
-returns-clause-groups c = λ edits frames others old new behind a b. group_one c.replies_are_one.ensures.request edits frames others old new behind a b
+returns-clause-groups c = λ edits frames others old new behind a b.
+    group_one c.replies_are_one.ensures.request edits frames others old new behind a b

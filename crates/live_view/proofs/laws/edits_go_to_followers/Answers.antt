@@ -8,4 +8,5 @@ pub returns-clause-just : goal.returns-clause-just
 returns-clause-just c = λ series n sessions followed. contains-filter (λ m. shows series (last_of (session_of m sessions))) followed n
 
 pub returns-clause-rising : goal.returns-clause-rising
-returns-clause-rising c = λ series sessions followed rising. IsStrictlyIncreasing-filter (λ m. shows series (last_of (session_of m sessions))) followed rising
+returns-clause-rising c = λ series sessions followed rising. IsStrictlyIncreasing-filter
+    (λ m. shows series (last_of (session_of m sessions))) followed rising

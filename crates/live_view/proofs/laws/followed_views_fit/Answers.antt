@@ -13,4 +13,9 @@ returns-clause-needed c = λ session view list axis grid lo hi keys follows same
 
 pub returns-clause-columns : goal.returns-clause-columns
 returns-clause-columns c = λ session view follows size.
-    omega (arith, size.1, bound-fits session.number session.cache.capacity session.last view follows.followed follows.last follows.unfiltered)
+    omega (
+      arith,
+      size.1,
+      bound-fits session.number session.cache.capacity session.last view follows.followed follows.last
+          follows.unfiltered,
+    )

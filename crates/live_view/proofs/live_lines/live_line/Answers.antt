@@ -6,10 +6,13 @@ pub returns-then-line-gt-LONGEST_LINE-clause-asked : goal.returns-then-line-gt-L
 returns-then-line-gt-LONGEST_LINE-clause-asked c = line-long c.args.line.now (omega arith)
 
 pub returns-then-eq-clause-asked : goal.returns-then-eq-clause-asked
-returns-then-eq-clause-asked c = rw (line-asks c.args.line.now c.first_token-word.result.now (omega arith) c.first_token-word.ensures.token) (search rules)
+returns-then-eq-clause-asked c = rw (line-asks c.args.line.now c.first_token-word.result.now (omega arith) c.first_token-word.ensures.token)
+    (search rules)
 
 pub returns-then-eq-2-clause-asked : goal.returns-then-eq-2-clause-asked
-returns-then-eq-2-clause-asked c = rw (line-asks c.args.line.now c.first_token-word.result.now (omega arith) c.first_token-word.ensures.token) (search rules)
+returns-then-eq-2-clause-asked c = rw (line-asks c.args.line.now c.first_token-word.result.now
+    (omega arith) c.first_token-word.ensures.token) (search rules)
 
 pub returns-clause-asked : goal.returns-clause-asked
-returns-clause-asked c = rw (line-asks c.args.line.now c.first_token-word.result.now (omega arith) c.first_token-word.ensures.token) (search rules)
+returns-clause-asked c = rw (line-asks c.args.line.now c.first_token-word.result.now (omega arith) c.first_token-word.ensures.token)
+    (search rules)

@@ -40,7 +40,11 @@ join-requires-clause-next c =
 pub loop-i-init : goal.loop-i-init
 loop-i-init c =
     let some : 0 < length c.args.rows.now = grind (arith, c.is_empty.ensures, c.if-is_empty.false) in
-    record { drawn = first_painted c.args.scale.lo c.args.scale.hi c.args.scale.h c.args.rows.now _ _ _ (slice_get-get_or c.args.rows.now 0 _ some) c.fill.ensures }
+    record {
+      drawn = first_painted c.args.scale.lo c.args.scale.hi c.args.scale.h c.args.rows.now _ _ _
+          (slice_get-get_or c.args.rows.now 0 _ some) c.fill.ensures;
+    }
 
 pub returns : goal.returns
-returns c = all_painted c.args.scale.lo c.args.scale.hi c.args.scale.h c.args.rows.now c.loop-i.i _ _ c.loop-i-test.false c.loop-i.invariant.drawn
+returns c = all_painted c.args.scale.lo c.args.scale.hi c.args.scale.h c.args.rows.now c.loop-i.i _ _ c.loop-i-test.false
+    c.loop-i.invariant.drawn

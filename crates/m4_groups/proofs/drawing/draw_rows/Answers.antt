@@ -20,7 +20,8 @@ pub returns-clause-rows : goal.returns-clause-rows
 returns-clause-rows c =
     let low_fits : SFits w64 c.args.lo = c.ranges.lo in
     let high_fits : SFits w64 c.args.hi = c.ranges.hi in
-    let P : ℕ → List Row → Type 0 = λ h rows. Adds (λ x y. Drawn (row_heights c.args.lo c.args.hi h rows) x (pos y)) c.args.bitmap.now c.draw_all.new.bitmap in
+    let P : ℕ → List Row → Type 0 = λ h rows. Adds (λ x y. Drawn (row_heights c.args.lo c.args.hi h rows) x (pos y)) c.args.bitmap.now
+    c.draw_all.new.bitmap in
     subst₂ P c.height-h.ensures.value c.as_slice.ensures (simp to_z-of_z at c.draw_all.ensures)
 
 pub returns-clause-raster : goal.returns-clause-raster

@@ -8,4 +8,5 @@ returns c column last =
     let fits : SFits w64 c.args.v = c.ranges.v in
     let count : length c.args.rows.now.items ≡ suc (c.len-last.result - 1) = omega (arith) in
     ap (set c.args.rows.now.items (c.len-last.result - 1)) (simp to_z-of_z at c.extend.ensures)
-    ∙ sym (put_last-own c.args.rows.now.items (c.len-last.result - 1) column c.args.v c.index_mut.result.now count c.index_mut.ensures.value last)
+    ∙ sym (put_last-own c.args.rows.now.items (c.len-last.result - 1) column c.args.v c.index_mut.result.now count c.index_mut.ensures.value
+    last)

@@ -10,7 +10,8 @@ use Rattle.needed_nodes.proofs.columns.add_column.Goals as goal
 
 pub returns-in_default-clause-found : goal.returns-in_default-clause-found
 returns-in_default-clause-found g c =
-    column_none (g.N.Nodes.view c.args.nodes.now) c.args.window.now c.args.column c.args.blocks _ _ c.in_default.is c.requires.drawn c.requires.ends c.requires.spans
+    column_none (g.N.Nodes.view c.args.nodes.now) c.args.window.now c.args.column c.args.blocks _ _ c.in_default.is c.requires.drawn
+    c.requires.ends c.requires.spans
 
 pub ends_of-requires-clause-held : goal.ends_of-requires-clause-held
 ends_of-requires-clause-held g c =
@@ -30,5 +31,6 @@ returns-in_err-push-clause-cause g c = err_cause _ _ NoMemory c.from_residual-in
 
 pub returns-clause-found : goal.returns-clause-found
 returns-clause-found g c =
-    column_some _ c.args.window.now _ c.args.column c.in-Some.found c.args.blocks _ _ _ _ c.in_ok-ends.ends c.row_by.result c.in-Some.is c.requires.held c.requires.spans
+    column_some _ c.args.window.now _ c.args.column c.in-Some.found c.args.blocks _ _ _ _ c.in_ok-ends.ends c.row_by.result c.in-Some.is
+    c.requires.held c.requires.spans
     c.in_ok-ends.ensures.found c.row_by.ensures c.in_ok-push.ensures.items

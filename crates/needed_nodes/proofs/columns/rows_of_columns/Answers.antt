@@ -15,7 +15,8 @@ loop-column-init g c = record {
   faults = omega arith;
   quiet = refl;
   found =
-      let P : List Row → Type 0 = λ rows. HasColumns (g.N.Nodes.view c.args.nodes.now) c.args.window.now 0 c.args.keys.now.items c.args.keys.now.items rows in
+      let P : List Row → Type 0 = λ rows. HasColumns
+      (g.N.Nodes.view c.args.nodes.now) c.args.window.now 0 c.args.keys.now.items c.args.keys.now.items rows in
       subst P (sym c.new-rows.ensures.items) (no_columns (g.N.Nodes.view c.args.nodes.now) c.args.window.now c.args.keys.now.items);
 }
 
@@ -54,13 +55,16 @@ add_column-requires-clause-spans g c = λ list served.
 
 pub returns-in_err-add_column-clause-kept : goal.returns-in_err-add_column-clause-kept
 returns-in_err-add_column-clause-kept g c =
-    g.met.N.Nodes.keeps_on c.args.nodes.now c.loop-column.nodes c.add_column.new.nodes c.loop-column.invariant.kept c.in_err-add_column.ensures.kept
+    g.met.N.Nodes.keeps_on c.args.nodes.now c.loop-column.nodes c.add_column.new.nodes c.loop-column.invariant.kept
+    c.in_err-add_column.ensures.kept
 
 pub returns-in_err-add_column-clause-reads : goal.returns-in_err-add_column-clause-reads
 returns-in_err-add_column-clause-reads g c =
-    reads_within (g.N.Nodes.view c.args.nodes.now).reads (g.N.Nodes.view c.add_column.new.nodes).reads (c.loop-column.column + 1) c.args.window.now.grid.w _
+    reads_within (g.N.Nodes.view c.args.nodes.now).reads (g.N.Nodes.view c.add_column.new.nodes).reads
+    (c.loop-column.column + 1) c.args.window.now.grid.w _
     (omega (arith, c.loop-column-test.true, c.w-column-end.ensures.value))
-    (reads_column (g.N.Nodes.view c.args.nodes.now).reads (g.N.Nodes.view c.loop-column.nodes).reads (g.N.Nodes.view c.add_column.new.nodes).reads c.loop-column.column _
+    (reads_column (g.N.Nodes.view c.args.nodes.now).reads (g.N.Nodes.view c.loop-column.nodes).reads
+    (g.N.Nodes.view c.add_column.new.nodes).reads c.loop-column.column _
     c.loop-column.invariant.reads c.in_err-add_column.ensures.reads)
 
 pub returns-in_err-add_column-clause-faults : goal.returns-in_err-add_column-clause-faults
@@ -69,33 +73,40 @@ returns-in_err-add_column-clause-faults g c = omega (arith, c.loop-column.invari
 pub returns-in_err-add_column-clause-cause : goal.returns-in_err-add_column-clause-cause
 returns-in_err-add_column-clause-cause g c =
     err_cause _ _ c.in_err-add_column.field-0.0 c.from_residual.ensures.1
-    (cause_earlier (g.N.Nodes.view c.args.nodes.now) (g.N.Nodes.view c.loop-column.nodes) (g.N.Nodes.view c.add_column.new.nodes) c.args.window.now c.in_err-add_column.field-0.0
-    (g.met.N.Nodes.keeps_same c.args.nodes.now c.loop-column.nodes c.loop-column.invariant.kept) c.loop-column.invariant.quiet c.in_err-add_column.ensures.cause)
+    (cause_earlier (g.N.Nodes.view c.args.nodes.now) (g.N.Nodes.view c.loop-column.nodes)
+    (g.N.Nodes.view c.add_column.new.nodes) c.args.window.now c.in_err-add_column.field-0.0
+    (g.met.N.Nodes.keeps_same c.args.nodes.now c.loop-column.nodes c.loop-column.invariant.kept) c.loop-column.invariant.quiet
+    c.in_err-add_column.ensures.cause)
 
 pub loop-column-preserved : goal.loop-column-preserved
 loop-column-preserved g c = record {
   fit = c.in_ok-add_column.ensures.fit;
-  kept = g.met.N.Nodes.keeps_on c.args.nodes.now c.loop-column.nodes c.add_column.new.nodes c.loop-column.invariant.kept c.in_ok-add_column.ensures.kept;
+  kept = g.met.N.Nodes.keeps_on c.args.nodes.now c.loop-column.nodes c.add_column.new.nodes c.loop-column.invariant.kept
+      c.in_ok-add_column.ensures.kept;
   reads =
-      reads_column (g.N.Nodes.view c.args.nodes.now).reads (g.N.Nodes.view c.loop-column.nodes).reads (g.N.Nodes.view c.add_column.new.nodes).reads c.loop-column.column _
+      reads_column (g.N.Nodes.view c.args.nodes.now).reads (g.N.Nodes.view c.loop-column.nodes).reads
+      (g.N.Nodes.view c.add_column.new.nodes).reads c.loop-column.column _
       c.loop-column.invariant.reads c.in_ok-add_column.ensures.reads;
   faults = omega (arith, c.loop-column.invariant.faults, c.in_ok-add_column.ensures.faults);
   quiet = c.in_ok-add_column.ensures.quiet ∙ c.loop-column.invariant.quiet;
   found =
       more_columns (g.N.Nodes.view c.args.nodes.now) (g.N.Nodes.view c.loop-column.nodes) c.args.window.now c.loop-column.column _ _ _ _ _
-      (g.met.N.Nodes.keeps_same c.args.nodes.now c.loop-column.nodes c.loop-column.invariant.kept) c.loop-column.invariant.found c.in_ok-add_column.ensures.found;
+      (g.met.N.Nodes.keeps_same c.args.nodes.now c.loop-column.nodes c.loop-column.invariant.kept) c.loop-column.invariant.found
+      c.in_ok-add_column.ensures.found;
 }
 
 pub returns-clause-reads : goal.returns-clause-reads
 returns-clause-reads g c =
-    reads_within (g.N.Nodes.view c.args.nodes.now).reads (g.N.Nodes.view c.loop-column.nodes).reads c.loop-column.column c.args.window.now.grid.w _
+    reads_within (g.N.Nodes.view c.args.nodes.now).reads
+    (g.N.Nodes.view c.loop-column.nodes).reads c.loop-column.column c.args.window.now.grid.w _
     (omega (arith, c.loop-column.auto.column-end, c.w-column-end.ensures.value)) c.loop-column.invariant.reads
 
 pub returns-clause-found : goal.returns-clause-found
 returns-clause-found g c =
     let last : c.loop-column.column ≡ c.args.window.now.grid.w =
     omega (arith, c.loop-column-test.false, c.loop-column.auto.column-end, c.w-column-end.ensures.value) in
-    let P : ℕ → Type 0 = λ n. HasColumns (g.N.Nodes.view c.args.nodes.now) c.args.window.now n c.args.keys.now.items c.loop-column.keys.items c.loop-column.rows.items in
+    let P : ℕ → Type 0 = λ n. HasColumns (g.N.Nodes.view c.args.nodes.now) c.args.window.now n c.args.keys.now.items
+    c.loop-column.keys.items c.loop-column.rows.items in
     subst P last c.loop-column.invariant.found
 
 pub returns-in_err-add_column-clause-quiet_err : goal.returns-in_err-add_column-clause-quiet_err

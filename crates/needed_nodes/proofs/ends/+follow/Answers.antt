@@ -9,7 +9,9 @@ use Rattle.needed_nodes.specs.declared.scan_of.ScanOf.TheVariants.{Node, NoMemor
 use Rattle.needed_nodes.specs.Ends.{slot_values}
 use Rattle.needed_nodes.proofs.ServeLaws.{ready_as, ready_at, ready_on}
 use Rattle.needed_nodes.proofs.StepLaws.{cause_earlier, err_cause}
-use Rattle.needed_nodes.proofs.EndLaws.{follows_none, follows_unsought, follows_slot, follows_flat, follows_halves, may_hold_left, may_hold_right, inside_left, inside_right, end_reads_asked, end_reads_first, end_reads_both, far_asked, far_first, far_both, sought_wanted_as}
+use Rattle.needed_nodes.proofs.EndLaws.{follows_none, follows_unsought, follows_slot, follows_flat, follows_halves, may_hold_left}
+use Rattle.needed_nodes.proofs.EndLaws.{may_hold_right, inside_left, inside_right, end_reads_asked, end_reads_first, end_reads_both}
+use Rattle.needed_nodes.proofs.EndLaws.{far_asked, far_first, far_both, sought_wanted_as}
 use Rattle.needed_nodes.proofs.ends.+follow.Goals as goal
 
 true_false : (b : Bool) → b ≡ true → b ≡ false → ⊥
@@ -17,20 +19,24 @@ true_false b h g = cc
 
 pub returns-in_default-clause-found : goal.returns-in_default-clause-found
 returns-in_default-clause-found g t c =
-    follows_none _ c.args.window.now c.args.column c.args.key c.args.span c.args.sought _ _ c.in_default.is c.requires.ready c.nothing.ensures.first c.nothing.ensures.last
+    follows_none _ c.args.window.now c.args.column c.args.key c.args.span c.args.sought _ _ c.in_default.is c.requires.ready
+    c.nothing.ensures.first c.nothing.ensures.last
 
 pub returns-then-is_nothing-clause-found : goal.returns-then-is_nothing-clause-found
 returns-then-is_nothing-clause-found g t c =
-    follows_unsought _ c.args.window.now c.args.column c.args.key c.args.span c.args.sought _ _ (c.is_nothing.ensures.none c.if-is_nothing.true) c.nothing-then-is_nothing.ensures.first c.nothing-then-is_nothing.ensures.last
+    follows_unsought _ c.args.window.now c.args.column c.args.key c.args.span c.args.sought _ _
+    (c.is_nothing.ensures.none c.if-is_nothing.true) c.nothing-then-is_nothing.ensures.first c.nothing-then-is_nothing.ensures.last
 
 pub returns-then-key-eq0-clause-found : goal.returns-then-key-eq0-clause-found
 returns-then-key-eq0-clause-found g t c =
-    follows_slot _ c.args.window.now c.args.column c.args.key c.in-Some.span c.args.span c.args.sought _ _ c.in-Some.is c.requires.ready c.if-key-eq0.true
+    follows_slot _ c.args.window.now c.args.column c.args.key c.in-Some.span c.args.span c.args.sought _ _ c.in-Some.is c.requires.ready
+    c.if-key-eq0.true
     (c.of_slot.ensures ∙ ap (slot_values c.args.sought) (to_z-of_z w64 c.in-Some.span.min (search rules)))
 
 pub returns-then-is_flat-clause-found : goal.returns-then-is_flat-clause-found
 returns-then-is_flat-clause-found g t c =
-    follows_flat c.flat_keys_hold_flat_keys.ensures.below c.flat_keys_hold_flat_keys.ensures.value _ c.args.window.now c.args.column c.args.key c.in-Some.span c.args.span c.args.sought _ _ c.in-Some.is c.requires.ready
+    follows_flat c.flat_keys_hold_flat_keys.ensures.below c.flat_keys_hold_flat_keys.ensures.value _ c.args.window.now c.args.column
+    c.args.key c.in-Some.span c.args.span c.args.sought _ _ c.in-Some.is c.requires.ready
     (c.is_flat.ensures.0 c.if-is_flat.true)
     (c.of_slot-then-is_flat.ensures ∙ ap (slot_values c.args.sought) (to_z-of_z w64 c.in-Some.span.min (search rules)))
 
@@ -44,7 +50,10 @@ ask-requires-clause-low g t c =
 
 pub ask-requires-clause-wanted : goal.ask-requires-clause-wanted
 ask-requires-clause-wanted g t c =
-    sought_wanted_as _ c.args.window.now c.args.column c.args.key c.in-Some.span c.args.span c.args.sought c.in-Some.is c.requires.ready (omega (arith, c.if-key-eq0.false)) c.requires.inside (λ flat. true_false c.is_flat.result (c.is_flat.ensures.1 flat) c.if-is_flat.false) (c.is_nothing.ensures.some c.if-is_nothing.false) c.requires.clear
+    sought_wanted_as _ c.args.window.now c.args.column c.args.key c.in-Some.span c.args.span c.args.sought c.in-Some.is c.requires.ready
+    (omega (arith, c.if-key-eq0.false)) c.requires.inside
+    (λ flat. true_false c.is_flat.result (c.is_flat.ensures.1 flat) c.if-is_flat.false)
+    (c.is_nothing.ensures.some c.if-is_nothing.false) c.requires.clear
 
 pub left-requires-clause-low : goal.left-requires-clause-low
 left-requires-clause-low g t c =
@@ -75,7 +84,8 @@ follow-requires g t c κs within =
           ready_at _ w (left_of c.args.key) c.left.result _ c.left.ensures c.in_ok-node.ensures.left,
           (
             inside_left w c.args.column c.args.key c.left.result low c.left.ensures c.requires.inside,
-            may_hold_left _ _ w c.args.column c.args.key c.left.result c.args.span c.args.sought c.in_left.result c.in_ok-node.node.right c.left.ensures c.in_left.ensures
+            may_hold_left _ _ w c.args.column c.args.key c.left.result c.args.span c.args.sought c.in_left.result c.in_ok-node.node.right
+                c.left.ensures c.in_left.ensures
                 c.requires.ready low asked c.in_ok-node.ensures.right c.requires.clear,
           ),
         ),
@@ -100,7 +110,8 @@ follow-requires-2 g t c κs within =
           ready_on _ _ w (right_of c.args.key) c.right.result _ c.right.ensures went c.in_ok-front.ensures.fit c.in_ok-node.ensures.right,
           (
             inside_right w c.args.column c.args.key c.right.result low c.right.ensures c.requires.inside,
-            may_hold_right _ _ _ w c.args.column c.args.key c.right.result c.args.span c.args.sought c.in_right.result c.in_ok-node.node.left c.right.ensures c.in_right.ensures
+            may_hold_right _ _ _ w c.args.column c.args.key c.right.result c.args.span c.args.sought c.in_right.result
+                c.in_ok-node.node.left c.right.ensures c.in_right.ensures
                 c.requires.ready low asked both c.in_ok-node.ensures.left c.requires.clear,
           ),
         ),
@@ -109,11 +120,13 @@ follow-requires-2 g t c κs within =
 
 pub returns-in_err-node-clause-few_reads : goal.returns-in_err-node-clause-few_reads
 returns-in_err-node-clause-few_reads g t c =
-    λ may. end_reads_asked c.args.key c.args.sought c.in-Some.span _ _ c.args.span c.in-Some.is (omega (arith, c.if-key-eq0.false)) (c.is_nothing.ensures.some c.if-is_nothing.false) (c.in_err-node.ensures.one_read may)
+    λ may. end_reads_asked c.args.key c.args.sought c.in-Some.span _ _ c.args.span c.in-Some.is (omega (arith, c.if-key-eq0.false))
+    (c.is_nothing.ensures.some c.if-is_nothing.false) (c.in_err-node.ensures.one_read may)
 
 pub returns-in_err-node-clause-reads : goal.returns-in_err-node-clause-reads
 returns-in_err-node-clause-reads g t c =
-    far_asked c.args.key c.args.sought c.in-Some.span _ _ _ c.args.span c.in-Some.is (omega (arith, c.if-key-eq0.false)) (c.is_nothing.ensures.some c.if-is_nothing.false) c.in_err-node.ensures.reads
+    far_asked c.args.key c.args.sought c.in-Some.span _ _ _ c.args.span c.in-Some.is (omega (arith, c.if-key-eq0.false))
+    (c.is_nothing.ensures.some c.if-is_nothing.false) c.in_err-node.ensures.reads
 
 pub returns-in_err-node-clause-cause : goal.returns-in_err-node-clause-cause
 returns-in_err-node-clause-cause g t c =
@@ -121,11 +134,13 @@ returns-in_err-node-clause-cause g t c =
 
 pub returns-in_err-push-clause-few_reads : goal.returns-in_err-push-clause-few_reads
 returns-in_err-push-clause-few_reads g t c =
-    λ may. end_reads_asked c.args.key c.args.sought c.in-Some.span _ _ c.args.span c.in-Some.is (omega (arith, c.if-key-eq0.false)) (c.is_nothing.ensures.some c.if-is_nothing.false) (c.in_ok-node.ensures.one_read may)
+    λ may. end_reads_asked c.args.key c.args.sought c.in-Some.span _ _ c.args.span c.in-Some.is (omega (arith, c.if-key-eq0.false))
+    (c.is_nothing.ensures.some c.if-is_nothing.false) (c.in_ok-node.ensures.one_read may)
 
 pub returns-in_err-push-clause-reads : goal.returns-in_err-push-clause-reads
 returns-in_err-push-clause-reads g t c =
-    far_asked c.args.key c.args.sought c.in-Some.span _ _ _ c.args.span c.in-Some.is (omega (arith, c.if-key-eq0.false)) (c.is_nothing.ensures.some c.if-is_nothing.false) c.in_ok-node.ensures.reads
+    far_asked c.args.key c.args.sought c.in-Some.span _ _ _ c.args.span c.in-Some.is (omega (arith, c.if-key-eq0.false))
+    (c.is_nothing.ensures.some c.if-is_nothing.false) c.in_ok-node.ensures.reads
 
 pub returns-in_err-push-clause-cause : goal.returns-in_err-push-clause-cause
 returns-in_err-push-clause-cause g t c =
@@ -133,73 +148,118 @@ returns-in_err-push-clause-cause g t c =
 
 pub returns-in_err-front-clause-few_reads : goal.returns-in_err-front-clause-few_reads
 returns-in_err-front-clause-few_reads g t c =
-    λ may. end_reads_first c.args.key c.left.result c.args.sought c.in_left.result c.in-Some.span c.in_ok-node.node.left c.in_ok-node.node.right _ _ _ c.args.span c.in-Some.is (omega (arith, c.if-key-eq0.false)) c.left.ensures c.in_left.ensures (c.is_nothing.ensures.some c.if-is_nothing.false) c.in_ok-node.ensures.whole (c.in_ok-node.ensures.one_read may)
-    (c.in_err-front.ensures.few_reads (ask_at (g.N.Nodes.view c.ask.new.nodes) c.left.result (left_of c.args.key) c.left.ensures (ask_left (g.N.Nodes.view c.ask.new.nodes) c.args.key (omega (arith, c.if-key-eq0.false)) c.in_ok-node.ensures.asked)))
+    λ may. end_reads_first c.args.key c.left.result c.args.sought c.in_left.result c.in-Some.span c.in_ok-node.node.left
+    c.in_ok-node.node.right _ _ _ c.args.span c.in-Some.is (omega (arith, c.if-key-eq0.false)) c.left.ensures c.in_left.ensures
+    (c.is_nothing.ensures.some c.if-is_nothing.false) c.in_ok-node.ensures.whole (c.in_ok-node.ensures.one_read may)
+    (c.in_err-front.ensures.few_reads (ask_at (g.N.Nodes.view c.ask.new.nodes) c.left.result (left_of c.args.key) c.left.ensures
+    (ask_left (g.N.Nodes.view c.ask.new.nodes) c.args.key (omega (arith, c.if-key-eq0.false)) c.in_ok-node.ensures.asked)))
 
 pub returns-in_err-front-clause-reads : goal.returns-in_err-front-clause-reads
 returns-in_err-front-clause-reads g t c =
-    far_first c.args.key c.left.result c.args.sought c.in_left.result c.in-Some.span c.in_ok-node.node.left c.in_ok-node.node.right _ _ _ _ c.args.span c.in-Some.is (omega (arith, c.if-key-eq0.false)) c.left.ensures c.in_left.ensures (c.is_nothing.ensures.some c.if-is_nothing.false) c.in_ok-node.ensures.whole c.in_ok-node.ensures.reads
-    (c.in_err-front.ensures.few_reads (ask_at (g.N.Nodes.view c.ask.new.nodes) c.left.result (left_of c.args.key) c.left.ensures (ask_left (g.N.Nodes.view c.ask.new.nodes) c.args.key (omega (arith, c.if-key-eq0.false)) c.in_ok-node.ensures.asked)))
+    far_first c.args.key c.left.result c.args.sought c.in_left.result c.in-Some.span c.in_ok-node.node.left c.in_ok-node.node.right _ _ _ _
+    c.args.span c.in-Some.is (omega (arith, c.if-key-eq0.false)) c.left.ensures c.in_left.ensures
+    (c.is_nothing.ensures.some c.if-is_nothing.false) c.in_ok-node.ensures.whole c.in_ok-node.ensures.reads
+    (c.in_err-front.ensures.few_reads (ask_at (g.N.Nodes.view c.ask.new.nodes) c.left.result (left_of c.args.key) c.left.ensures
+    (ask_left (g.N.Nodes.view c.ask.new.nodes) c.args.key (omega (arith, c.if-key-eq0.false)) c.in_ok-node.ensures.asked)))
 
 pub returns-in_err-front-clause-cause : goal.returns-in_err-front-clause-cause
 returns-in_err-front-clause-cause g t c =
     err_cause _ _ c.in_err-front.field-0.0 c.from_residual-in_err-front.ensures.1
-    (cause_earlier (g.N.Nodes.view c.args.nodes.now) (g.N.Nodes.view c.ask.new.nodes) (g.N.Nodes.view c.follow.new.nodes) c.args.window.now c.in_err-front.field-0.0 (g.met.N.Nodes.keeps_same c.args.nodes.now c.ask.new.nodes c.in_ok-node.ensures.kept) c.in_ok-node.ensures.quiet c.in_err-front.ensures.cause)
+    (cause_earlier (g.N.Nodes.view c.args.nodes.now) (g.N.Nodes.view c.ask.new.nodes)
+    (g.N.Nodes.view c.follow.new.nodes) c.args.window.now c.in_err-front.field-0.0
+    (g.met.N.Nodes.keeps_same c.args.nodes.now c.ask.new.nodes c.in_ok-node.ensures.kept) c.in_ok-node.ensures.quiet
+    c.in_err-front.ensures.cause)
 
 pub returns-in_err-back-clause-few_reads : goal.returns-in_err-back-clause-few_reads
 returns-in_err-back-clause-few_reads g t c =
-    λ may. end_reads_both c.args.key c.left.result c.right.result c.args.sought c.in_left.result c.in_right.result c.in-Some.span c.in_ok-node.node.left c.in_ok-node.node.right _ _ _ _ c.args.span c.in-Some.is (omega (arith, c.if-key-eq0.false)) c.left.ensures c.right.ensures c.in_left.ensures c.in_right.ensures (c.is_nothing.ensures.some c.if-is_nothing.false) c.in_ok-node.ensures.whole (c.in_ok-node.ensures.one_read may)
-    (c.in_ok-front.ensures.few_reads (ask_at (g.N.Nodes.view c.ask.new.nodes) c.left.result (left_of c.args.key) c.left.ensures (ask_left (g.N.Nodes.view c.ask.new.nodes) c.args.key (omega (arith, c.if-key-eq0.false)) c.in_ok-node.ensures.asked)))
-    (c.in_err-back.ensures.few_reads (right_follows_at (g.N.Nodes.view c.follow.new.nodes) c.args.key c.left.result c.right.result (g.N.Nodes.view c.ask.new.nodes).asked (omega (arith, c.if-key-eq0.false)) c.left.ensures c.right.ensures c.in_ok-node.ensures.asked c.in_ok-front.ensures.found.below))
+    λ may. end_reads_both c.args.key c.left.result c.right.result c.args.sought c.in_left.result c.in_right.result c.in-Some.span
+    c.in_ok-node.node.left c.in_ok-node.node.right _ _ _ _ c.args.span c.in-Some.is
+    (omega (arith, c.if-key-eq0.false)) c.left.ensures c.right.ensures c.in_left.ensures c.in_right.ensures
+    (c.is_nothing.ensures.some c.if-is_nothing.false) c.in_ok-node.ensures.whole (c.in_ok-node.ensures.one_read may)
+    (c.in_ok-front.ensures.few_reads (ask_at (g.N.Nodes.view c.ask.new.nodes) c.left.result (left_of c.args.key) c.left.ensures
+    (ask_left (g.N.Nodes.view c.ask.new.nodes) c.args.key (omega (arith, c.if-key-eq0.false)) c.in_ok-node.ensures.asked)))
+    (c.in_err-back.ensures.few_reads (right_follows_at (g.N.Nodes.view c.follow.new.nodes) c.args.key c.left.result c.right.result
+    (g.N.Nodes.view c.ask.new.nodes).asked (omega (arith, c.if-key-eq0.false)) c.left.ensures c.right.ensures c.in_ok-node.ensures.asked
+    c.in_ok-front.ensures.found.below))
 
 pub returns-in_err-back-clause-reads : goal.returns-in_err-back-clause-reads
 returns-in_err-back-clause-reads g t c =
-    far_both c.args.key c.left.result c.right.result c.args.sought c.in_left.result c.in_right.result c.in-Some.span c.in_ok-node.node.left c.in_ok-node.node.right _ _ _ _ _ c.args.span c.in-Some.is (omega (arith, c.if-key-eq0.false)) c.left.ensures c.right.ensures c.in_left.ensures c.in_right.ensures (c.is_nothing.ensures.some c.if-is_nothing.false) c.in_ok-node.ensures.whole c.in_ok-node.ensures.reads
-    (c.in_ok-front.ensures.few_reads (ask_at (g.N.Nodes.view c.ask.new.nodes) c.left.result (left_of c.args.key) c.left.ensures (ask_left (g.N.Nodes.view c.ask.new.nodes) c.args.key (omega (arith, c.if-key-eq0.false)) c.in_ok-node.ensures.asked)))
-    (c.in_err-back.ensures.few_reads (right_follows_at (g.N.Nodes.view c.follow.new.nodes) c.args.key c.left.result c.right.result (g.N.Nodes.view c.ask.new.nodes).asked (omega (arith, c.if-key-eq0.false)) c.left.ensures c.right.ensures c.in_ok-node.ensures.asked c.in_ok-front.ensures.found.below))
+    far_both c.args.key c.left.result c.right.result c.args.sought c.in_left.result c.in_right.result c.in-Some.span c.in_ok-node.node.left
+    c.in_ok-node.node.right _ _ _ _ _ c.args.span c.in-Some.is
+    (omega (arith, c.if-key-eq0.false)) c.left.ensures c.right.ensures c.in_left.ensures c.in_right.ensures
+    (c.is_nothing.ensures.some c.if-is_nothing.false) c.in_ok-node.ensures.whole c.in_ok-node.ensures.reads
+    (c.in_ok-front.ensures.few_reads (ask_at (g.N.Nodes.view c.ask.new.nodes) c.left.result (left_of c.args.key) c.left.ensures
+    (ask_left (g.N.Nodes.view c.ask.new.nodes) c.args.key (omega (arith, c.if-key-eq0.false)) c.in_ok-node.ensures.asked)))
+    (c.in_err-back.ensures.few_reads (right_follows_at (g.N.Nodes.view c.follow.new.nodes) c.args.key c.left.result c.right.result
+    (g.N.Nodes.view c.ask.new.nodes).asked (omega (arith, c.if-key-eq0.false)) c.left.ensures c.right.ensures c.in_ok-node.ensures.asked
+    c.in_ok-front.ensures.found.below))
 
 pub returns-in_err-back-clause-cause : goal.returns-in_err-back-clause-cause
 returns-in_err-back-clause-cause g t c =
     err_cause _ _ c.in_err-back.field-0.0 c.from_residual-in_err-back.ensures.1
-    (cause_earlier (g.N.Nodes.view c.args.nodes.now) (g.N.Nodes.view c.follow.new.nodes) (g.N.Nodes.view c.follow-2.new.nodes) c.args.window.now c.in_err-back.field-0.0 (g.met.N.Nodes.keeps_same c.args.nodes.now c.follow.new.nodes
+    (cause_earlier (g.N.Nodes.view c.args.nodes.now) (g.N.Nodes.view c.follow.new.nodes)
+    (g.N.Nodes.view c.follow-2.new.nodes) c.args.window.now c.in_err-back.field-0.0
+    (g.met.N.Nodes.keeps_same c.args.nodes.now c.follow.new.nodes
     (g.met.N.Nodes.keeps_on c.args.nodes.now c.ask.new.nodes c.follow.new.nodes c.in_ok-node.ensures.kept c.in_ok-front.ensures.kept))
     (c.in_ok-front.ensures.quiet ∙ c.in_ok-node.ensures.quiet) c.in_err-back.ensures.cause)
 
 pub returns-clause-few_reads : goal.returns-clause-few_reads
 returns-clause-few_reads g t c =
-    λ may. end_reads_both c.args.key c.left.result c.right.result c.args.sought c.in_left.result c.in_right.result c.in-Some.span c.in_ok-node.node.left c.in_ok-node.node.right _ _ _ _ c.args.span c.in-Some.is (omega (arith, c.if-key-eq0.false)) c.left.ensures c.right.ensures c.in_left.ensures c.in_right.ensures (c.is_nothing.ensures.some c.if-is_nothing.false) c.in_ok-node.ensures.whole (c.in_ok-node.ensures.one_read may)
-    (c.in_ok-front.ensures.few_reads (ask_at (g.N.Nodes.view c.ask.new.nodes) c.left.result (left_of c.args.key) c.left.ensures (ask_left (g.N.Nodes.view c.ask.new.nodes) c.args.key (omega (arith, c.if-key-eq0.false)) c.in_ok-node.ensures.asked)))
-    (c.in_ok-back.ensures.few_reads (right_follows_at (g.N.Nodes.view c.follow.new.nodes) c.args.key c.left.result c.right.result (g.N.Nodes.view c.ask.new.nodes).asked (omega (arith, c.if-key-eq0.false)) c.left.ensures c.right.ensures c.in_ok-node.ensures.asked c.in_ok-front.ensures.found.below))
+    λ may. end_reads_both c.args.key c.left.result c.right.result c.args.sought c.in_left.result c.in_right.result c.in-Some.span
+    c.in_ok-node.node.left c.in_ok-node.node.right _ _ _ _ c.args.span c.in-Some.is
+    (omega (arith, c.if-key-eq0.false)) c.left.ensures c.right.ensures c.in_left.ensures c.in_right.ensures
+    (c.is_nothing.ensures.some c.if-is_nothing.false) c.in_ok-node.ensures.whole (c.in_ok-node.ensures.one_read may)
+    (c.in_ok-front.ensures.few_reads (ask_at (g.N.Nodes.view c.ask.new.nodes) c.left.result (left_of c.args.key) c.left.ensures
+    (ask_left (g.N.Nodes.view c.ask.new.nodes) c.args.key (omega (arith, c.if-key-eq0.false)) c.in_ok-node.ensures.asked)))
+    (c.in_ok-back.ensures.few_reads (right_follows_at (g.N.Nodes.view c.follow.new.nodes) c.args.key c.left.result c.right.result
+    (g.N.Nodes.view c.ask.new.nodes).asked (omega (arith, c.if-key-eq0.false)) c.left.ensures c.right.ensures c.in_ok-node.ensures.asked
+    c.in_ok-front.ensures.found.below))
 
 pub returns-clause-reads : goal.returns-clause-reads
 returns-clause-reads g t c =
-    far_both c.args.key c.left.result c.right.result c.args.sought c.in_left.result c.in_right.result c.in-Some.span c.in_ok-node.node.left c.in_ok-node.node.right _ _ _ _ _ c.args.span c.in-Some.is (omega (arith, c.if-key-eq0.false)) c.left.ensures c.right.ensures c.in_left.ensures c.in_right.ensures (c.is_nothing.ensures.some c.if-is_nothing.false) c.in_ok-node.ensures.whole c.in_ok-node.ensures.reads
-    (c.in_ok-front.ensures.few_reads (ask_at (g.N.Nodes.view c.ask.new.nodes) c.left.result (left_of c.args.key) c.left.ensures (ask_left (g.N.Nodes.view c.ask.new.nodes) c.args.key (omega (arith, c.if-key-eq0.false)) c.in_ok-node.ensures.asked)))
-    (c.in_ok-back.ensures.few_reads (right_follows_at (g.N.Nodes.view c.follow.new.nodes) c.args.key c.left.result c.right.result (g.N.Nodes.view c.ask.new.nodes).asked (omega (arith, c.if-key-eq0.false)) c.left.ensures c.right.ensures c.in_ok-node.ensures.asked c.in_ok-front.ensures.found.below))
+    far_both c.args.key c.left.result c.right.result c.args.sought c.in_left.result c.in_right.result c.in-Some.span c.in_ok-node.node.left
+    c.in_ok-node.node.right _ _ _ _ _ c.args.span c.in-Some.is
+    (omega (arith, c.if-key-eq0.false)) c.left.ensures c.right.ensures c.in_left.ensures c.in_right.ensures
+    (c.is_nothing.ensures.some c.if-is_nothing.false) c.in_ok-node.ensures.whole c.in_ok-node.ensures.reads
+    (c.in_ok-front.ensures.few_reads (ask_at (g.N.Nodes.view c.ask.new.nodes) c.left.result (left_of c.args.key) c.left.ensures
+    (ask_left (g.N.Nodes.view c.ask.new.nodes) c.args.key (omega (arith, c.if-key-eq0.false)) c.in_ok-node.ensures.asked)))
+    (c.in_ok-back.ensures.few_reads (right_follows_at (g.N.Nodes.view c.follow.new.nodes) c.args.key c.left.result c.right.result
+    (g.N.Nodes.view c.ask.new.nodes).asked (omega (arith, c.if-key-eq0.false)) c.left.ensures c.right.ensures c.in_ok-node.ensures.asked
+    c.in_ok-front.ensures.found.below))
 
 pub returns-clause-found : goal.returns-clause-found
 returns-clause-found g t c =
-    follows_halves _ _ _ _ c.args.window.now c.args.column c.args.key c.left.result c.right.result c.in-Some.span c.args.span c.args.sought c.in_left.result c.in_right.result
+    follows_halves _ _ _ _ c.args.window.now c.args.column c.args.key c.left.result c.right.result c.in-Some.span c.args.span c.args.sought
+    c.in_left.result c.in_right.result
     c.in_ok-node.node.left c.in_ok-node.node.right c.in_ok-node.node.coef _ _ _ _ c.in_ok-front.front c.in_ok-back.back _
-    c.left.ensures c.right.ensures c.in_left.ensures c.in_right.ensures c.in-Some.is c.requires.ready (omega (arith, c.if-key-eq0.false)) c.requires.inside (λ flat. true_false c.is_flat.result (c.is_flat.ensures.1 flat) c.if-is_flat.false) (c.is_nothing.ensures.some c.if-is_nothing.false) c.requires.clear
-    c.in_ok-node.ensures.whole c.in_ok-node.ensures.asked (g.met.N.Nodes.keeps_same c.args.nodes.now c.ask.new.nodes c.in_ok-node.ensures.kept) c.in_ok-node.ensures.left c.in_ok-node.ensures.right
+    c.left.ensures c.right.ensures c.in_left.ensures c.in_right.ensures c.in-Some.is c.requires.ready
+    (omega (arith, c.if-key-eq0.false)) c.requires.inside
+    (λ flat. true_false c.is_flat.result (c.is_flat.ensures.1 flat) c.if-is_flat.false)
+    (c.is_nothing.ensures.some c.if-is_nothing.false) c.requires.clear
+    c.in_ok-node.ensures.whole c.in_ok-node.ensures.asked
+    (g.met.N.Nodes.keeps_same c.args.nodes.now c.ask.new.nodes c.in_ok-node.ensures.kept) c.in_ok-node.ensures.left
+    c.in_ok-node.ensures.right
     c.in_ok-node.ensures.told c.in_ok-node.ensures.splits c.in_ok-push.ensures.items
     c.in_ok-front.ensures.found (g.met.N.Nodes.keeps_same c.args.nodes.now c.follow.new.nodes
-    (g.met.N.Nodes.keeps_on c.args.nodes.now c.ask.new.nodes c.follow.new.nodes c.in_ok-node.ensures.kept c.in_ok-front.ensures.kept)) c.in_ok-back.ensures.found c.of_halves.ensures
+    (g.met.N.Nodes.keeps_on c.args.nodes.now c.ask.new.nodes c.follow.new.nodes c.in_ok-node.ensures.kept c.in_ok-front.ensures.kept))
+    c.in_ok-back.ensures.found c.of_halves.ensures
 
 pub returns-in_err-back-clause-kept : goal.returns-in_err-back-clause-kept
 returns-in_err-back-clause-kept g t c =
     g.met.N.Nodes.keeps_on c.args.nodes.now c.follow.new.nodes c.follow-2.new.nodes
-    (g.met.N.Nodes.keeps_on c.args.nodes.now c.ask.new.nodes c.follow.new.nodes c.in_ok-node.ensures.kept c.in_ok-front.ensures.kept) c.in_err-back.ensures.kept
+    (g.met.N.Nodes.keeps_on c.args.nodes.now c.ask.new.nodes c.follow.new.nodes c.in_ok-node.ensures.kept c.in_ok-front.ensures.kept)
+    c.in_err-back.ensures.kept
 
 pub returns-clause-kept : goal.returns-clause-kept
 returns-clause-kept g t c =
     g.met.N.Nodes.keeps_on c.args.nodes.now c.follow.new.nodes c.follow-2.new.nodes
-    (g.met.N.Nodes.keeps_on c.args.nodes.now c.ask.new.nodes c.follow.new.nodes c.in_ok-node.ensures.kept c.in_ok-front.ensures.kept) c.in_ok-back.ensures.kept
+    (g.met.N.Nodes.keeps_on c.args.nodes.now c.ask.new.nodes c.follow.new.nodes c.in_ok-node.ensures.kept c.in_ok-front.ensures.kept)
+    c.in_ok-back.ensures.kept
 
 pub returns-in_err-node-clause-quiet_err : goal.returns-in_err-node-clause-quiet_err
 returns-in_err-node-clause-quiet_err g t c =
-    err_cause _ _ (Node c.in_err-node.field-0.0) c.from_residual.ensures.1 (λ ne. c.in_err-node.ensures.quiet_err (λ same. ne (ap Node same)))
+    err_cause _ _ (Node c.in_err-node.field-0.0) c.from_residual.ensures.1
+    (λ ne. c.in_err-node.ensures.quiet_err (λ same. ne (ap Node same)))
 
 pub returns-in_err-push-clause-quiet_err : goal.returns-in_err-push-clause-quiet_err
 returns-in_err-push-clause-quiet_err g t c =
@@ -207,7 +267,8 @@ returns-in_err-push-clause-quiet_err g t c =
 
 pub returns-in_err-front-clause-quiet_err : goal.returns-in_err-front-clause-quiet_err
 returns-in_err-front-clause-quiet_err g t c =
-    err_cause _ _ c.in_err-front.field-0.0 c.from_residual-in_err-front.ensures.1 (λ ne. c.in_err-front.ensures.quiet_err ne ∙ c.in_ok-node.ensures.quiet)
+    err_cause _ _ c.in_err-front.field-0.0 c.from_residual-in_err-front.ensures.1 (λ ne. c.in_err-front.ensures.quiet_err ne
+    ∙ c.in_ok-node.ensures.quiet)
 
 pub returns-in_err-back-clause-quiet_err : goal.returns-in_err-back-clause-quiet_err
 returns-in_err-back-clause-quiet_err g t c =

@@ -13,7 +13,8 @@ loop-at-preserved c =
     let e : Key × Coef = get_or c.args.keys.now loop.at d in
     record {
       sized = length-set loop.levels.items c.place_of-place.result c.add.new.self ∙ loop.invariant.sized;
-      moved = levels_more c.args.keys.now loop.levels.items loop.at c.place_of-place.result d c.index_mut.result.now c.add.new.self (omega (arith, c.loop-at-test.true))
+      moved = levels_more c.args.keys.now loop.levels.items loop.at c.place_of-place.result d c.index_mut.result.now c.add.new.self
+          (omega (arith, c.loop-at-test.true))
           (omega (arith, c.place_of-place.ensures, loop.invariant.sized))
           (c.in_ok-add.ensures ∙ ap (λ (x : Level). x.keys.items ++ e ∷ []) c.index_mut.ensures.value) loop.invariant.moved;
     }

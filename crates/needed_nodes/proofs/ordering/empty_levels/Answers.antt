@@ -6,6 +6,8 @@ use Rattle.needed_nodes.proofs.ordering.empty_levels.Goals as goal
 
 pub loop-place-preserved : goal.loop-place-preserved
 loop-place-preserved c = record {
-  sized = ap length c.in_ok-push.ensures.items ∙ length_push c.loop-place.levels.items c.in_ok-level.level ∙ ap (λ (n : ℕ). n + 1) c.loop-place.invariant.sized;
-  empty = ap joined c.in_ok-push.ensures.items ∙ joined_empty c.loop-place.levels.items c.in_ok-level.level c.loop-place.invariant.empty c.in_ok-level.ensures;
+  sized = ap length c.in_ok-push.ensures.items ∙ length_push c.loop-place.levels.items c.in_ok-level.level
+      ∙ ap (λ (n : ℕ). n + 1) c.loop-place.invariant.sized;
+  empty = ap joined c.in_ok-push.ensures.items ∙ joined_empty c.loop-place.levels.items c.in_ok-level.level c.loop-place.invariant.empty
+      c.in_ok-level.ensures;
 }

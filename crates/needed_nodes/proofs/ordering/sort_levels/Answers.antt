@@ -15,5 +15,6 @@ loop-at-preserved c =
     record {
       sized = length-set levels loop.at c.sort.new.self ∙ loop.invariant.sized;
       moved = IsPermutation-trans _ (joined levels) _ loop.invariant.moved
-          (joined_sorted levels loop.at c.index_mut.result.now c.sort.new.self (omega (arith, c.loop-at-test.true, loop.invariant.sized)) (subst P c.index_mut.ensures.value c.sort.ensures));
+          (joined_sorted levels loop.at c.index_mut.result.now c.sort.new.self (omega (arith, c.loop-at-test.true, loop.invariant.sized))
+          (subst P c.index_mut.ensures.value c.sort.ensures));
     }

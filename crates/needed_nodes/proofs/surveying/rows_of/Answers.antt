@@ -14,13 +14,15 @@ returns-clause-rising g c =
 
 pub returns-clause-shown : goal.returns-clause-shown
 returns-clause-shown g c =
-    let P : List Row → Type 0 = λ rows. All (IsShownRow c.args.grid.w) rows in subst P (sym c.from_vec.ensures) c.in_ok-explored.ensures.found.shown
+    let P : List Row → Type 0 = λ rows. All (IsShownRow c.args.grid.w) rows in
+    subst P (sym c.from_vec.ensures) c.in_ok-explored.ensures.found.shown
 
 pub returns-clause-rows : goal.returns-clause-rows
 returns-clause-rows g c = λ list agrees.
     let P : List Row → Type 0 = λ rows. AreDrawnAs c.args.grid c.args.lo c.args.hi (points_of c.args.axis c.args.grid list) rows in
     subst P (sym c.from_vec.ensures)
-    ((explores_at (g.N.Nodes.view c.args.nodes.now) c.args.axis c.args.grid _ _ c.args.lo c.args.hi c.in_ok-explored.explored.keys.items c.in_ok-explored.explored.rows.items
+    ((explores_at (g.N.Nodes.view c.args.nodes.now) c.args.axis c.args.grid _ _ c.args.lo c.args.hi c.in_ok-explored.explored.keys.items
+    c.in_ok-explored.explored.rows.items
     (to_z-of_z w64 c.args.lo c.ranges.lo) (to_z-of_z w64 c.args.hi c.ranges.hi) c.in_ok-explored.ensures.found).rows_of_list list agrees)
 
 pub returns-in_err-explored-clause-cause : goal.returns-in_err-explored-clause-cause
@@ -30,4 +32,5 @@ returns-in_err-explored-clause-cause g c =
     err_cause _ _ c.in_err-explored.field-0.0 c.from_residual.ensures.1 (simp to_z-of_z at c.in_err-explored.ensures.cause)
 
 pub returns-in_err-explored-clause-quiet_err : goal.returns-in_err-explored-clause-quiet_err
-returns-in_err-explored-clause-quiet_err g c = err_cause _ _ c.in_err-explored.field-0.0 c.from_residual.ensures.1 c.in_err-explored.ensures.quiet_err
+returns-in_err-explored-clause-quiet_err g c = err_cause _ _ c.in_err-explored.field-0.0 c.from_residual.ensures.1
+    c.in_err-explored.ensures.quiet_err

@@ -10,4 +10,5 @@ pub returns : goal.returns
 unfolding signed_at
 returns c =
     let fits : FitsSigned w64 c.read_i64.result = search rules in
-    to_z-of_z w64 c.read_i64.result fits ∙ c.read_i64.ensures ∙ ap (cast_signed w64) (number_read 8 c.args.offset c.args.page.now (omega arith))
+    to_z-of_z w64 c.read_i64.result fits ∙ c.read_i64.ensures
+    ∙ ap (cast_signed w64) (number_read 8 c.args.offset c.args.page.now (omega arith))

@@ -1,4 +1,5 @@
-use Rattle.node_page.proofs.KeyPlaces.{node_few, every_node, level_of_top, level_above, top_index, top_node, same_page, node_below, index_above, node_above, one_key}
+use Rattle.node_page.proofs.KeyPlaces.{node_few, every_node, level_of_top, level_above, top_index, top_node, same_page, node_below}
+use Rattle.node_page.proofs.KeyPlaces.{index_above, node_above, one_key}
 use Rattle.node_page.proofs.laws.keys_have_their_nodes.Goals as goal
 
 pub returns-clause-within : goal.returns-clause-within

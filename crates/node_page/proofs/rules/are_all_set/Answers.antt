@@ -6,7 +6,8 @@ use Rattle.node_page.proofs.FullPages.{flags_of_full, nodes_of_full}
 use Rattle.node_page.proofs.rules.are_all_set.Goals as goal
 
 -- the bytes of a part that is full
-full_at : (page : List ℕ) → IsBlock page → ((k : ℕ) → k < length (take 31 (drop 8 page)) → get_or (take 31 (drop 8 page)) k 0 ≡ 255) → (k : ℕ) → k < 31 → get_or page (8 + k) 0 ≡ 255
+full_at : (page : List ℕ) → IsBlock page → ((k : ℕ) → k < length (take 31 (drop 8 page)) → get_or (take 31 (drop 8 page)) k 0 ≡ 255)
+    → (k : ℕ) → k < 31 → get_or page (8 + k) 0 ≡ 255
 full_at page whole all k few =
     let part = drop 8 page in
     let size : length (take 31 part) ≡ 31 = length-take-le 31 part (omega (arith, length-drop 8 page, whole)) in

@@ -10,7 +10,8 @@ returns-then-are_zero c =
         | inl front ↦ zero_in 2 6 page (omega arith) (c.are_zero.ensures.0 c.if-are_zero.true) k front.0 front.1
         | inr behind ↦ zero_in 2584 n page (omega arith) (c.are_zero-then-are_zero.ensures.0 yes) k behind.0 (omega (arith, behind.1))
       ],
-      λ reserved. c.are_zero-then-are_zero.ensures.1 (zero_out 2584 n page (omega arith) (λ k from to. reserved k (inr (from, omega (arith, to))))),
+      λ reserved. c.are_zero-then-are_zero.ensures.1
+          (zero_out 2584 n page (omega arith) (λ k from to. reserved k (inr (from, omega (arith, to))))),
     )
 
 pub returns-else-are_zero : goal.returns-else-are_zero

@@ -9,16 +9,24 @@ use Rattle.om3_coeff.proofs.ends.last_in.Goals as goal
 
 pub last_below-requires-clause-reached : goal.last_below-requires-clause-reached
 last_below-requires-clause-reached g c =
-    at_top (g.N.Nodes.view c.args.nodes.now) c.top_key-top.result c.root-root.result c.slots.result c.slots.ensures.slots c.root-root.ensures.root
+    at_top (g.N.Nodes.view c.args.nodes.now) c.top_key-top.result c.root-root.result c.slots.result c.slots.ensures.slots
+    c.root-root.ensures.root
     (c.root-root.ensures.proper c.requires.fit) c.top_key-top.ensures
 
 pub returns-clause-list : goal.returns-clause-list
 returns-clause-list g c = λ list agrees.
-    IfOk-weaker c.last_below.result (IsLastStored list (max c.args.a (first_slot c.top_key-top.result)) (min c.args.b (end_slot c.top_key-top.result))) (IsLastStored list c.args.a c.args.b)
-    (λ found. last_of_all list c.args.a c.args.b c.slots.result (g.N.Nodes.view c.args.nodes.now).slots c.top_key-top.result found c.slots.ensures.slots c.top_key-top.ensures
+    IfOk-weaker c.last_below.result (IsLastStored list (max c.args.a (first_slot c.top_key-top.result))
+    (min c.args.b (end_slot c.top_key-top.result))) (IsLastStored list c.args.a c.args.b)
+    (λ found. last_of_all list c.args.a c.args.b c.slots.result
+    (g.N.Nodes.view c.args.nodes.now).slots c.top_key-top.result found c.slots.ensures.slots c.top_key-top.ensures
     (c.slots.ensures.few c.requires.fit) c.requires.within)
     (c.last_below.ensures.list list agrees)
 
 pub returns-clause-reads : goal.returns-clause-reads
 returns-clause-reads g c =
-    omega (arith, c.last_below.ensures.reads, all_reads c.args.a c.args.b c.slots.result (g.N.Nodes.view c.args.nodes.now).slots c.top_key-top.result c.slots.ensures.slots c.top_key-top.ensures)
+    omega (
+      arith,
+      c.last_below.ensures.reads,
+      all_reads c.args.a c.args.b c.slots.result
+          (g.N.Nodes.view c.args.nodes.now).slots c.top_key-top.result c.slots.ensures.slots c.top_key-top.ensures,
+    )

@@ -13,9 +13,11 @@ returns-in_default-clause-none c = unmarked_none _ (strip_prefix_is Decides-eqb 
 pub returns-then-not-all_zero-clause-none : goal.returns-then-not-all_zero-clause-none
 returns-then-not-all_zero-clause-none c =
     let marked = strip_prefix_is Decides-eqb c.args.page.now mark (Some c.in-Some.rest) c.in-Some.ensures.cases in
-    freed_none _ _ _ _ marked c.word_at-next.ensures.parts (no_zeros _ 4088 _ c.all_zero.ensures (omega (arith, c.in-Some.ensures.cases.2)) c.if-not-all_zero.true)
+    freed_none _ _ _ _ marked c.word_at-next.ensures.parts
+    (no_zeros _ 4088 _ c.all_zero.ensures (omega (arith, c.in-Some.ensures.cases.2)) c.if-not-all_zero.true)
 
 pub returns-clause-named : goal.returns-clause-named
 returns-clause-named c =
     let marked = strip_prefix_is Decides-eqb c.args.page.now mark (Some c.in-Some.rest) c.in-Some.ensures.cases in
-    freed_some _ _ _ _ marked c.word_at-next.ensures.parts (are_zeros _ 4088 _ c.all_zero.ensures (omega (arith, c.in-Some.ensures.cases.2)) c.if-not-all_zero.false)
+    freed_some _ _ _ _ marked c.word_at-next.ensures.parts
+    (are_zeros _ 4088 _ c.all_zero.ensures (omega (arith, c.in-Some.ensures.cases.2)) c.if-not-all_zero.false)

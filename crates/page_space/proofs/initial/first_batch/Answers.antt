@@ -7,7 +7,8 @@ use Rattle.page_space.proofs.initial.first_batch.Goals as goal
 pub loop-p-preserved : goal.loop-p-preserved
 loop-p-preserved c = record {
   len = one_longer c.args.count c.loop-p.p _ _ c.put-in-loop-p.ensures.len c.loop-p.invariant.pages c.loop-p.invariant.len;
-  pages = first_more c.args.count c.loop-p.p _ _ _ (omega arith) c.write_catalog.ensures c.put-in-loop-p.ensures.page c.loop-p.invariant.pages;
+  pages = first_more c.args.count c.loop-p.p _ _ _ (omega arith) c.write_catalog.ensures c.put-in-loop-p.ensures.page
+      c.loop-p.invariant.pages;
 }
 
 pub returns-clause-pages : goal.returns-clause-pages

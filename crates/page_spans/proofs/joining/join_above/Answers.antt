@@ -15,7 +15,8 @@ loop-place-preserved c =
       spans = step.spans;
       whole = step.whole;
       proper = step.proper;
-      joined = joins_above (span_at c.loop-place.spans) (span_at c.join_node.new.spans) (coef_at c.loop-place.bytes) (coef_at c.join_node.new.bytes) old node
+      joined = joins_above (span_at c.loop-place.spans) (span_at c.join_node.new.spans) (coef_at c.loop-place.bytes)
+          (coef_at c.join_node.new.bytes) old node
           c.loop-place.invariant.joined (halved old c.loop-place-test.true) step.span step.coef step.others step.coefs;
       leaves = λ n from. step.others n (omega (arith, from, few)) ∙ c.loop-place.invariant.leaves n from;
       kept = kept_on c.args.bytes.now c.loop-place.bytes c.join_node.new.bytes c.loop-place.invariant.kept step.kept;

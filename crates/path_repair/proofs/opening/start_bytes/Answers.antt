@@ -4,7 +4,8 @@ use Rattle.path_repair.proofs.opening.start_bytes.Goals as goal
 
 pub returns-clause-form : goal.returns-clause-form
 returns-clause-form c = λ total below.
-    start_form c.args.level total c.args.page c.blank.new.bytes c.set_level.new.bytes c.set_child.new.bytes c.blank.ensures.zeros c.set_level.ensures.whole c.set_level.ensures.kind c.set_level.ensures.level c.set_level.ensures.rest
+    start_form c.args.level total c.args.page c.blank.new.bytes c.set_level.new.bytes c.set_child.new.bytes c.blank.ensures.zeros
+    c.set_level.ensures.whole c.set_level.ensures.kind c.set_level.ensures.level c.set_level.ensures.rest
     c.set_child.ensures.whole c.set_child.ensures.child c.set_child.ensures.others c.set_child.ensures.rest below
 
 pub returns-clause-none : goal.returns-clause-none

@@ -25,12 +25,24 @@ returns-clause-sound g c = λ base list below told is slots holds top some child
     let C : List ℕ → Type 0 = λ page. (child : ℕ) → child < 128 → child_at page child < (shown.total c.args.space.now) in
     let within = subst C (sym read) children in
     let same : c.read.new.self.superblock ≡ (shown.numbers c.args.space.now) = c.read.ensures.superblock in
-    ok_no_err c.spread.result (λ e. e ≡ DiskFault) (c.spread.ensures.sound list below c.args.at.index is slots (subst H (sym read) holds) top some (λ child low. omega (arith, within child low, c.total.ensures.total, ap (λ (one : Superblock). one.total) same)))
+    ok_no_err c.spread.result (λ e. e ≡ DiskFault) (c.spread.ensures.sound list below c.args.at.index is slots
+    (subst H (sym read) holds) top some (λ child low. omega (
+      arith,
+      within child low,
+      c.total.ensures.total,
+      ap (λ (one : Superblock). one.total) same,
+    )))
 
 pub returns-in_default-clause-moved : goal.returns-in_default-clause-moved
 returns-in_default-clause-moved g c =
-    moved_read (shown.IsTold c.args.space.now) (shown.IsTold c.read.new.self) (shown.view c.args.space.now) (shown.view c.read.new.self) (shown.under c.args.space.now) (shown.under c.read.new.self) (shown.numbers c.args.space.now) (shown.numbers c.read.new.self) c.args.txn.now c.args.txn.now c.read.ensures.reads c.read.ensures.goes_on c.read.ensures.superblock refl
+    moved_read (shown.IsTold c.args.space.now) (shown.IsTold c.read.new.self) (shown.view c.args.space.now) (shown.view c.read.new.self)
+    (shown.under c.args.space.now) (shown.under c.read.new.self) (shown.numbers c.args.space.now)
+    (shown.numbers c.read.new.self) c.args.txn.now c.args.txn.now c.read.ensures.reads c.read.ensures.goes_on c.read.ensures.superblock
+    refl
 
 pub returns-clause-moved : goal.returns-clause-moved
 returns-clause-moved g c =
-    moved_read (shown.IsTold c.args.space.now) (shown.IsTold c.read.new.self) (shown.view c.args.space.now) (shown.view c.read.new.self) (shown.under c.args.space.now) (shown.under c.read.new.self) (shown.numbers c.args.space.now) (shown.numbers c.read.new.self) c.args.txn.now c.args.txn.now c.read.ensures.reads c.read.ensures.goes_on c.read.ensures.superblock refl
+    moved_read (shown.IsTold c.args.space.now) (shown.IsTold c.read.new.self) (shown.view c.args.space.now) (shown.view c.read.new.self)
+    (shown.under c.args.space.now) (shown.under c.read.new.self) (shown.numbers c.args.space.now)
+    (shown.numbers c.read.new.self) c.args.txn.now c.args.txn.now c.read.ensures.reads c.read.ensures.goes_on c.read.ensures.superblock
+    refl

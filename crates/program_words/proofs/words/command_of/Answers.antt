@@ -14,4 +14,5 @@ refused words false is why = elim why [
 
 pub returns-in-Err-Refused-clause-wrong : goal.returns-in-Err-Refused-clause-wrong
 returns-in-Err-Refused-clause-wrong c =
-    refused (map string_bytes c.args.words.now) (has_flag (map string_bytes c.args.words.now)) refl (c.in-Err-Refused.ensures.refused (ap Err c.in-Err-Refused.field-0-is))
+    refused (map string_bytes c.args.words.now) (has_flag (map string_bytes c.args.words.now)) refl
+    (c.in-Err-Refused.ensures.refused (ap Err c.in-Err-Refused.field-0-is))

@@ -10,7 +10,8 @@ pub returns-in_err-seed-clause-wrong : goal.returns-in_err-seed-clause-wrong
 returns-in_err-seed-clause-wrong c =
     let words = map (λ word. word.now) c.args.words.now in
     let W : WordsEnd → Type 0 = λ end. IsWrongBy end words in
-    error_so _ W c.from_residual.result c.from_residual.ensures.1 (λ e is. subst W (sym is) (seed_end words c.in_err-seed.field-0.0 c.requires c.in_err-seed.ensures.none))
+    error_so _ W c.from_residual.result c.from_residual.ensures.1
+    (λ e is. subst W (sym is) (seed_end words c.in_err-seed.field-0.0 c.requires c.in_err-seed.ensures.none))
 
 pub returns-in_default-clause-wrong : goal.returns-in_default-clause-wrong
 returns-in_default-clause-wrong c =
@@ -22,7 +23,8 @@ returns-then-words-gt3-clause-wrong c =
     let words = map (λ word. word.now) c.args.words.now in
     let seed = c.in_ok-seed.ensures.found in
     let many : 3 < length words = omega (arith, c.if-words-gt3.true, length-map c.args.words.now (λ word. word.now)) in
-    wrong_behind_rounds words c.in_ok-seed.seed c.in-Some.count seed.0 c.in-Some.ensures.found.0 c.requires seed.1 c.in-Some.ensures.found.1 many
+    wrong_behind_rounds words c.in_ok-seed.seed c.in-Some.count seed.0 c.in-Some.ensures.found.0 c.requires seed.1 c.in-Some.ensures.found.1
+    many
 
 pub returns-clause-command : goal.returns-clause-command
 returns-clause-command c =

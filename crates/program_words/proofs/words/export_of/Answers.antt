@@ -10,7 +10,8 @@ pub returns-in_err-name-clause-wrong : goal.returns-in_err-name-clause-wrong
 returns-in_err-name-clause-wrong c =
     let words = map (λ word. word.now) c.args.words.now in
     let W : WordsEnd → Type 0 = λ end. IsWrongBy end words in
-    error_so _ W c.from_residual.result c.from_residual.ensures.1 (λ e is. subst W (sym is) (export_name_end words c.in_err-name.field-0.0 c.requires c.in_err-name.ensures.none))
+    error_so _ W c.from_residual.result c.from_residual.ensures.1
+    (λ e is. subst W (sym is) (export_name_end words c.in_err-name.field-0.0 c.requires c.in_err-name.ensures.none))
 
 pub returns-then-words-le2-clause-command : goal.returns-then-words-le2-clause-command
 returns-then-words-le2-clause-command c =

@@ -22,7 +22,8 @@ returns-in_default-time_at-clause-wrong c = λ name named first second.
     let words = map (λ word. word.now) c.args.words.now in
     let some : 2 < length words = omega (arith, c.requires.some, length-map c.args.words.now (λ word. word.now)) in
     let from = c.in-Some.ensures.found in
-    no_to words name c.in-Some.from from.0 (omega (arith, ints, c.if-from.false, c.from.ensures)) from.1 c.in_default-time_at.ensures.none some named first second
+    no_to words name c.in-Some.from from.0 (omega (arith, ints, c.if-from.false, c.from.ensures)) from.1 c.in_default-time_at.ensures.none
+    some named first second
 
 pub returns-then-to-from-clause-wrong : goal.returns-then-to-from-clause-wrong
 returns-then-to-from-clause-wrong c = λ name named first second.
@@ -30,7 +31,8 @@ returns-then-to-from-clause-wrong c = λ name named first second.
     let some : 2 < length words = omega (arith, c.requires.some, length-map c.args.words.now (λ word. word.now)) in
     let from = c.in-Some.ensures.found in
     let to = c.in-Some-time_at.ensures.found in
-    early_to words name c.in-Some.from c.in-Some-time_at.to from.0 (omega (arith, ints, c.if-from.false, c.from.ensures)) from.1 to.0 to.1 (omega (arith, ints, c.if-to-from.true)) some named first second
+    early_to words name c.in-Some.from c.in-Some-time_at.to from.0 (omega (arith, ints, c.if-from.false, c.from.ensures)) from.1 to.0 to.1
+    (omega (arith, ints, c.if-to-from.true)) some named first second
 
 pub returns-then-words-gt4-clause-wrong : goal.returns-then-words-gt4-clause-wrong
 returns-then-words-gt4-clause-wrong c = λ name named first second.
@@ -39,4 +41,5 @@ returns-then-words-gt4-clause-wrong c = λ name named first second.
     let to = c.in-Some-time_at.ensures.found in
     let later : c.in-Some.from <ℤ c.in-Some-time_at.to = omega (arith, ints, c.if-to-from.false) in
     let many : 4 < length words = omega (arith, c.if-words-gt4.true, length-map c.args.words.now (λ word. word.now)) in
-    too_many words name c.in-Some.from c.in-Some-time_at.to (record { rising = later; from_size = from.0; to_size = to.0 }) from.1 to.1 many named first second
+    too_many words name c.in-Some.from c.in-Some-time_at.to
+    (record { rising = later; from_size = from.0; to_size = to.0 }) from.1 to.1 many named first second

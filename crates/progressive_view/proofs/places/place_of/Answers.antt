@@ -19,7 +19,8 @@ loop-from-preserved-then-comes_before c =
     let list : List (Key × Coef) = c.args.list.now in
     let middle : ℕ = c.loop-from.from + (c.loop-from.to - c.loop-from.from) / 2 in
     let less : middle < c.loop-from.to = omega (arith, c.loop-from-test.true) in
-    narrowed-up list c.args.key c.loop-from.from c.loop-from.to middle (middle + 1) (get_or list middle no_entry) c.requires.order c.loop-from.invariant less refl
+    narrowed-up list c.args.key c.loop-from.from c.loop-from.to middle (middle + 1)
+    (get_or list middle no_entry) c.requires.order c.loop-from.invariant less refl
     (same list middle (omega (arith, less, c.loop-from.invariant.within))) (c.comes_before.ensures.0 c.if-comes_before.true)
 
 pub loop-from-preserved : goal.loop-from-preserved
@@ -27,7 +28,8 @@ loop-from-preserved c =
     let list : List (Key × Coef) = c.args.list.now in
     let middle : ℕ = c.loop-from.from + (c.loop-from.to - c.loop-from.from) / 2 in
     let less : middle < c.loop-from.to = omega (arith, c.loop-from-test.true) in
-    narrowed-down list c.args.key c.loop-from.from c.loop-from.to middle (get_or list middle no_entry) c.requires.order c.loop-from.invariant (omega arith) less
+    narrowed-down list c.args.key c.loop-from.from c.loop-from.to middle
+    (get_or list middle no_entry) c.requires.order c.loop-from.invariant (omega arith) less
     (same list middle (omega (arith, less, c.loop-from.invariant.within)))
     (λ before. not_both c.comes_before.result (c.comes_before.ensures.1 before) c.if-comes_before.false)
 

@@ -3,7 +3,8 @@ use Rattle.query_rewriter.proofs.rewriting.rewrite.Goals as goal
 
 pub returns-in_default-clause-same : goal.returns-in_default-clause-same
 returns-in_default-clause-same c = λ slots is values.
-    whole_plan c.args.query.now.axis c.args.query.now.grid c.args.query.now.filter c.window_slots-shown.result.0 c.window_slots-shown.result.1 slots c.in_default.is
+    whole_plan c.args.query.now.axis c.args.query.now.grid c.args.query.now.filter c.window_slots-shown.result.0
+    c.window_slots-shown.result.1 slots c.in_default.is
     c.window_slots-shown.ensures.from c.window_slots-shown.ensures.end is
 
 pub returns-clause-same : goal.returns-clause-same

@@ -14,10 +14,17 @@ returns c =
     let first : ℤ = to_z w64 (of_z w64 c.time_of-from.result) in
     let P : ℤ → Type 0 = λ x. IsAnswer (expression_of c.args.filter.now) (first, x) c.args.values c.on_box.result in
     let Q : ℤ → Type 0 = λ x. IsAnswer (expression_of c.args.filter.now) (x, c.time_of-to.result) c.args.values c.on_box.result in
-    says (expression_of c.args.filter.now) c.args.axis c.args.slots.0 c.args.slots.1 c.args.values c.time_of-from.result c.time_of-to.result c.on_box.result
+    says (expression_of c.args.filter.now) c.args.axis c.args.slots.0 c.args.slots.1 c.args.values c.time_of-from.result c.time_of-to.result
+    c.on_box.result
     c.time_of-from.ensures c.time_of-to.ensures
-    (λ t v is. c.answers_hold_everywhere.ensures.all (expression_of c.args.filter.now) (c.time_of-from.result, c.time_of-to.result) c.args.values is t v)
-    (λ t v is. c.answers_hold_everywhere.ensures.nothing (expression_of c.args.filter.now) (c.time_of-from.result, c.time_of-to.result) c.args.values is t v)
+    (λ t v is. c.answers_hold_everywhere.ensures.all (expression_of c.args.filter.now) (
+      c.time_of-from.result,
+      c.time_of-to.result,
+    ) c.args.values is t v)
+    (λ t v is. c.answers_hold_everywhere.ensures.nothing (expression_of c.args.filter.now) (
+      c.time_of-from.result,
+      c.time_of-to.result,
+    ) c.args.values is t v)
     (subst Q (to_z-of_z w64 c.time_of-from.result from) (subst P (to_z-of_z w64 c.time_of-to.result to) c.on_box.ensures))
 
 pub time_of-from-requires : goal.time_of-from-requires

@@ -4,7 +4,8 @@ use Rattle.query_rewriter.proofs.slots.window_slots.Goals as goal
 
 pub returns-clause-from : goal.returns-clause-from
 returns-clause-from c =
-    window_start c.args.axis c.args.grid 0 c.slot_range-from.result.0 refl (c.borders_part_columns.ensures.first c.args.grid) c.slot_range-from.ensures.from
+    window_start c.args.axis c.args.grid 0 c.slot_range-from.result.0 refl
+    (c.borders_part_columns.ensures.first c.args.grid) c.slot_range-from.ensures.from
 
 pub returns-clause-end : goal.returns-clause-end
 returns-clause-end c =

@@ -17,7 +17,8 @@ pub returns-clause-one_reading : goal.returns-clause-one_reading
 returns-clause-one_reading c = λ scale time value later other small_time small_value small_later small_other same.
     let says = λ (x y : ℤ) (small_x : unsigned_abs x < 10 ^ 19) (small_y : unsigned_abs y < 10 ^ 19).
     says_of scale x y small_x small_y
-    (c.plain_lines.ensures.fields (signed_decimal x) (decimal_text scale y) (plain_time x small_x) (plain_value scale y small_y) (no_mark x (decimal_text scale y) small_x)) in
+    (c.plain_lines.ensures.fields (signed_decimal x) (decimal_text scale y) (plain_time x small_x) (plain_value scale y small_y)
+    (no_mark x (decimal_text scale y) small_x)) in
     let rows = without_feed (reading_row scale time value) (reading_row scale later other) same in
     let P : List ℕ → Type 0 = λ row. Says scale row (Point time value) in
     same_point time value later other

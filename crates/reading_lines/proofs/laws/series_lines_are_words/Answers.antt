@@ -5,4 +5,5 @@ pub returns-clause-words : goal.returns-clause-words
 returns-clause-words c = λ name axis scale told. row_words name axis scale told
 
 pub returns-clause-one_series : goal.returns-clause-one_series
-returns-clause-one_series c = λ name other axis later scale places told known same. one_series name other axis later scale places told known same
+returns-clause-one_series c = λ name other axis later scale places told known same.
+    one_series name other axis later scale places told known same

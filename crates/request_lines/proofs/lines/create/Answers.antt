@@ -35,7 +35,8 @@ pub returns-in_err-end-clause-reads : goal.returns-in_err-end-clause-reads
 returns-in_err-end-clause-reads c =
     reads-exit Create c.args.reader.now _ _ c.from_residual-in_err-end.ensures.1
     (reads-misses_end Create (Name ∷ Start ∷ Step ∷ Scale ∷ []) nothing _ _ _ refl refl
-    (_, c.in_ok-name.ensures.ok.0, (_, c.in_ok-start.ensures.ok.0, (_, c.in_ok-step.ensures.ok.0, (_, c.in_ok-scale.ensures.ok.0, refl)))) c.in_err-end.ensures.err)
+    (_, c.in_ok-name.ensures.ok.0, (_, c.in_ok-start.ensures.ok.0, (_, c.in_ok-step.ensures.ok.0, (_, c.in_ok-scale.ensures.ok.0, refl))))
+    c.in_err-end.ensures.err)
 
 pub returns-clause-reads : goal.returns-clause-reads
 returns-clause-reads c = (

@@ -36,5 +36,6 @@ returns-clause-reads c = (
   passed-ends (Session ∷ []) (at_most_one Natural) _ _ (_, c.in_ok-session.ensures.ok.0, refl)
       (fault-one _ Natural _ c.in_ok-cache.ensures.ok.0.there
       ∙ fault-takes _ Natural [] nothing _ _ c.in_ok-cache.ensures.ok.0 ∙ fault-end _ _ c.in_ok-end.ensures.ok),
-  open_sized _ _ _ _ _ c.in_ok-session.ensures.ok.0 c.in_ok-cache.ensures.ok.0 c.in_ok-end.ensures.ok c.in_ok-session.ensures.ok.1 c.in_ok-cache.ensures.ok.1,
+  open_sized _ _ _ _ _ c.in_ok-session.ensures.ok.0 c.in_ok-cache.ensures.ok.0 c.in_ok-end.ensures.ok c.in_ok-session.ensures.ok.1
+      c.in_ok-cache.ensures.ok.1,
 )

@@ -8,7 +8,8 @@ use Rattle.request_lines.proofs.lines.parse_line.Goals as goal
 
 -- the answer of a line of a known kind
 answer : (c : goal.After-read)
-    → IfOk c.read.result (IsRequest c.args.line.now) × IfErr c.read.result (RefusesLine c.args.line.now) × ReadsAs (read_line c.args.line.now) c.read.result
+    → IfOk c.read.result (IsRequest c.args.line.now) × IfErr c.read.result (RefusesLine c.args.line.now)
+    × ReadsAs (read_line c.args.line.now) c.read.result
 answer c =
     let kind : kind_of (next_token (line_start c.args.line.now)) ≡ Some c.in-Some.kind =
     ap kind_of (ap next_token (sym c.new-reader.ensures) ∙ sym c.word-word.ensures.word) ∙ sym c.in-Some.ensures in

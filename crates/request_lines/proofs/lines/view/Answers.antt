@@ -35,33 +35,80 @@ pub returns-in_err-t0-clause-reads : goal.returns-in_err-t0-clause-reads
 returns-in_err-t0-clause-reads c =
     reads-exit View c.args.reader.now _ _ c.from_residual-in_err-t0.ensures.1
     (reads-misses View (Session ∷ Name ∷ Natural ∷ Natural ∷ []) Integer (Integer ∷ Range ∷ []) _ _ _ refl
-    (_, c.in_ok-session.ensures.ok.0, (_, c.in_ok-name.ensures.ok.0, (_, c.in_ok-w.ensures.ok.0, (_, c.in_ok-h.ensures.ok.0, refl)))) c.in_err-t0.ensures.err)
+    (_, c.in_ok-session.ensures.ok.0, (_, c.in_ok-name.ensures.ok.0, (_, c.in_ok-w.ensures.ok.0, (_, c.in_ok-h.ensures.ok.0, refl))))
+    c.in_err-t0.ensures.err)
 
 pub returns-in_err-t1-clause-reads : goal.returns-in_err-t1-clause-reads
 returns-in_err-t1-clause-reads c =
     reads-exit View c.args.reader.now _ _ c.from_residual-in_err-t1.ensures.1
-    (reads-misses View (Session ∷ Name ∷ Natural ∷ Natural ∷ Integer ∷ []) Integer (Range ∷ []) _ _ _ refl
-    (_, c.in_ok-session.ensures.ok.0, (_, c.in_ok-name.ensures.ok.0, (_, c.in_ok-w.ensures.ok.0, (_, c.in_ok-h.ensures.ok.0, (_, c.in_ok-t0.ensures.ok.0, refl))))) c.in_err-t1.ensures.err)
+    (reads-misses View (Session ∷ Name ∷ Natural ∷ Natural ∷ Integer ∷ []) Integer (Range ∷ []) _ _ _ refl (
+      _,
+      c.in_ok-session.ensures.ok.0,
+      (
+        _,
+        c.in_ok-name.ensures.ok.0,
+        (_, c.in_ok-w.ensures.ok.0, (_, c.in_ok-h.ensures.ok.0, (_, c.in_ok-t0.ensures.ok.0, refl))),
+      ),
+    ) c.in_err-t1.ensures.err)
 
 pub returns-in_err-range-clause-reads : goal.returns-in_err-range-clause-reads
 returns-in_err-range-clause-reads c =
     reads-exit View c.args.reader.now _ _ c.from_residual-in_err-range.ensures.1
-    (reads-misses View (Session ∷ Name ∷ Natural ∷ Natural ∷ Integer ∷ Integer ∷ []) Range [] _ _ _ refl
-    (_, c.in_ok-session.ensures.ok.0, (_, c.in_ok-name.ensures.ok.0, (_, c.in_ok-w.ensures.ok.0, (_, c.in_ok-h.ensures.ok.0, (_, c.in_ok-t0.ensures.ok.0, (_, c.in_ok-t1.ensures.ok.0, refl)))))) c.in_err-range.ensures.err)
+    (reads-misses View (Session ∷ Name ∷ Natural ∷ Natural ∷ Integer ∷ Integer ∷ []) Range [] _ _ _ refl (
+      _,
+      c.in_ok-session.ensures.ok.0,
+      (
+        _,
+        c.in_ok-name.ensures.ok.0,
+        (_, c.in_ok-w.ensures.ok.0, (_, c.in_ok-h.ensures.ok.0, (_, c.in_ok-t0.ensures.ok.0, (_, c.in_ok-t1.ensures.ok.0, refl)))),
+      ),
+    )
+    c.in_err-range.ensures.err)
 
 pub returns-in_err-filter-clause-reads : goal.returns-in_err-filter-clause-reads
 returns-in_err-filter-clause-reads c =
     reads-exit View c.args.reader.now _ _ c.from_residual-in_err-filter.ensures.1
-    (reads-misses_end View (Session ∷ Name ∷ Natural ∷ Natural ∷ Integer ∷ Integer ∷ Range ∷ []) (any_behind Where) _ _ _ refl refl
-    (_, c.in_ok-session.ensures.ok.0, (_, c.in_ok-name.ensures.ok.0, (_, c.in_ok-w.ensures.ok.0, (_, c.in_ok-h.ensures.ok.0, (_, c.in_ok-t0.ensures.ok.0, (_, c.in_ok-t1.ensures.ok.0, (_, c.in_ok-range.ensures.ok.0, refl))))))) c.in_err-filter.ensures.err)
+    (reads-misses_end View (Session ∷ Name ∷ Natural ∷ Natural ∷ Integer ∷ Integer ∷ Range ∷ []) (any_behind Where) _ _ _ refl refl (
+      _,
+      c.in_ok-session.ensures.ok.0,
+      (
+        _,
+        c.in_ok-name.ensures.ok.0,
+        (
+          _,
+          c.in_ok-w.ensures.ok.0,
+          (
+            _,
+            c.in_ok-h.ensures.ok.0,
+            (_, c.in_ok-t0.ensures.ok.0, (_, c.in_ok-t1.ensures.ok.0, (_, c.in_ok-range.ensures.ok.0, refl))),
+          ),
+        ),
+      ),
+    ) c.in_err-filter.ensures.err)
 
 pub returns-clause-reads : goal.returns-clause-reads
 returns-clause-reads c = (
-  passed-ends (Session ∷ Name ∷ Natural ∷ Natural ∷ Integer ∷ Integer ∷ Range ∷ []) (any_behind Where) _ _
-      (_, c.in_ok-session.ensures.ok.0, (_, c.in_ok-name.ensures.ok.0, (_, c.in_ok-w.ensures.ok.0, (_, c.in_ok-h.ensures.ok.0, (_, c.in_ok-t0.ensures.ok.0, (_, c.in_ok-t1.ensures.ok.0, (_, c.in_ok-range.ensures.ok.0, refl)))))))
+  passed-ends (Session ∷ Name ∷ Natural ∷ Natural ∷ Integer ∷ Integer ∷ Range ∷ []) (any_behind Where) _ _ (
+    _,
+    c.in_ok-session.ensures.ok.0,
+    (
+      _,
+      c.in_ok-name.ensures.ok.0,
+      (
+        _,
+        c.in_ok-w.ensures.ok.0,
+        (
+          _,
+          c.in_ok-h.ensures.ok.0,
+          (_, c.in_ok-t0.ensures.ok.0, (_, c.in_ok-t1.ensures.ok.0, (_, c.in_ok-range.ensures.ok.0, refl))),
+        ),
+      ),
+    ),
+  )
       c.in_ok-filter.ensures.ok.0,
   view_is _ _ _ _ _ _ _ _ _ _ _ _ _ _ _ _ _ _
-      c.in_ok-session.ensures.ok.0 c.in_ok-name.ensures.ok.0 c.in_ok-w.ensures.ok.0 c.in_ok-h.ensures.ok.0 c.in_ok-t0.ensures.ok.0 c.in_ok-t1.ensures.ok.0 c.in_ok-range.ensures.ok.0
+      c.in_ok-session.ensures.ok.0 c.in_ok-name.ensures.ok.0 c.in_ok-w.ensures.ok.0 c.in_ok-h.ensures.ok.0 c.in_ok-t0.ensures.ok.0
+      c.in_ok-t1.ensures.ok.0 c.in_ok-range.ensures.ok.0
       c.in_ok-filter.ensures.ok.1
       c.in_ok-session.ensures.ok.1
       c.in_ok-name.ensures.ok.1

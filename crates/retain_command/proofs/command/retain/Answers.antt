@@ -48,12 +48,18 @@ returns-in-Ok-clause-ends g c =
     λ other name lacks.
     let sound = made.sound other in
     let keeps = rests_new end_pages.count (view new) (shown.numbers after) (end_pages.at_rest sound) (after.space.spelled sound) in
-    lacks_record end_pages.count (view new) (shown.numbers after) name keeps (λ honest. record { spelled = after.space.spelled sound honest; rules = after.space.rules })
-    (λ honest. no_record (pages_of end_pages.count (view new).image) (shown.numbers after) (shown.catalog after) name after.count (after.told sound honest) lacks) in
-    let all = retained_by pages.count end_pages.count pages.sound end_pages.sound (view first) (view old) (view new) (shown.total before) (shown.total after) (traffic left sent reads sends old new) made.goes
-    (rests_new pages.count (view old) (shown.numbers before) (pages.at_rest opened.sound) (before.space.spelled opened.sound)) (omega (arith, before.space.rules.total_high)) opened.count opened.opens opened.quiet
-    end (λ done. was_read (left old) (left new) (made.within done) (made.whole done)) made.long made.cause made.ends made.crash closed made.costs (shown.catalog after) made.faulty lacking made.answered in
-    let same = traffic_over view left sent reads sends w.beside_left w.beside_sent w.beside_read_faults w.beside_send_faults first old new opened.opens.beside_is in
+    lacks_record end_pages.count (view new) (shown.numbers after) name keeps
+    (λ honest. record { spelled = after.space.spelled sound honest; rules = after.space.rules })
+    (λ honest. no_record (pages_of end_pages.count (view new).image) (shown.numbers after) (shown.catalog after) name after.count
+    (after.told sound honest) lacks) in
+    let all = retained_by pages.count end_pages.count pages.sound end_pages.sound (view first) (view old) (view new) (shown.total before)
+    (shown.total after) (traffic left sent reads sends old new) made.goes
+    (rests_new pages.count (view old) (shown.numbers before) (pages.at_rest opened.sound) (before.space.spelled opened.sound))
+    (omega (arith, before.space.rules.total_high)) opened.count opened.opens opened.quiet
+    end (λ done. was_read (left old) (left new) (made.within done) (made.whole done)) made.long made.cause made.ends made.crash closed
+    made.costs (shown.catalog after) made.faulty lacking made.answered in
+    let same = traffic_over view left sent reads sends w.beside_left w.beside_sent w.beside_read_faults w.beside_send_faults first old new
+    opened.opens.beside_is in
     let T : Traffic → Type 0 = λ t. RetainEnds (view first) (view new) t end in
     let D : g.row.W.Denot → Type 0 = λ d. RetainEnds (view first) (view d) (traffic left sent reads sends first d) end in
     subst D (sym c.disk_of.ensures.disk) (subst T same all)
@@ -66,15 +72,18 @@ returns-in-Err-clause-ends g c =
     let old = c.args.world in
     let back = c.in-Err.field-0 in
     let e = c.in-Err.ensures in
-    unopened_ends (view old) (view back.value) (traffic left sent g.W.Streams.read_faults g.W.Streams.send_faults old back.value) back.cause c.opening_end.result c.opening_end.ensures
-    (unopened_over view left sent g.met.W.World.beside_left g.met.W.World.beside_sent old back.value back.cause e.opens.beside_is e.opens e.cause e.a_store)
+    unopened_ends (view old) (view back.value) (traffic left sent g.W.Streams.read_faults g.W.Streams.send_faults old back.value) back.cause
+    c.opening_end.result c.opening_end.ensures
+    (unopened_over view left sent g.met.W.World.beside_left g.met.W.World.beside_sent old back.value back.cause e.opens.beside_is e.opens
+    e.cause e.a_store)
 
 pub returns-in-Ok-clause-away : goal.returns-in-Ok-clause-away
 returns-in-Ok-clause-away g c = away_never _ _ c.in-Ok.ensures.large
 
 pub returns-in-Err-clause-away : goal.returns-in-Err-clause-away
 returns-in-Err-clause-away g c =
-    away_over g.W.Disk.view g.W.Streams.left g.W.Streams.sent g.met.W.World.beside_left g.met.W.World.beside_sent c.args.world c.in-Err.field-0.value c.in-Err.field-0.cause c.in-Err.ensures.opens.beside_is (status_of c.opening_end.result)
+    away_over g.W.Disk.view g.W.Streams.left g.W.Streams.sent g.met.W.World.beside_left g.met.W.World.beside_sent c.args.world
+    c.in-Err.field-0.value c.in-Err.field-0.cause c.in-Err.ensures.opens.beside_is (status_of c.opening_end.result)
     (ap (λ (e : End). status_of e) c.opening_end.ensures) c.in-Err.ensures.cause
 
 pub returns-in-Ok-clause-faults : goal.returns-in-Ok-clause-faults
@@ -86,11 +95,13 @@ returns-in-Ok-clause-faults g c =
     let end = c.sweep_lines-end.result in
     let D : g.row.W.Denot → Type 0 = λ d. CountsFault (end_fault end) first (view d) in
     subst D (sym c.disk_of.ensures.disk)
-    (counts_then (end_fault end) first old (view (shown.pages c.sweep_lines-end.new.store).disk) (counts_no_disk first old e.opens.beside_is e.quiet) c.sweep_lines-end.ensures.faults)
+    (counts_then (end_fault end) first old (view (shown.pages c.sweep_lines-end.new.store).disk)
+    (counts_no_disk first old e.opens.beside_is e.quiet) c.sweep_lines-end.ensures.faults)
 
 pub returns-in-Err-clause-faults : goal.returns-in-Err-clause-faults
 returns-in-Err-clause-faults g c =
     let view = g.W.Disk.view in
     let back = c.in-Err.field-0 in
     let e = c.in-Err.ensures in
-    counts_unopened_end back.cause c.opening_end.result (view c.args.world) (view back.value) c.opening_end.ensures e.opens.beside_is e.cause e.quiet_err
+    counts_unopened_end back.cause c.opening_end.result (view c.args.world)
+    (view back.value) c.opening_end.ensures e.opens.beside_is e.cause e.quiet_err

@@ -11,21 +11,25 @@ use Rattle.store_commands.specs.Sides.{side_of}
 use Rattle.retain_command.specs.Doing.{IsCause}
 use Rattle.retain_command.specs.Shown.{EndsOn, IsAnsweredSo, IsAtFault, IsBadOn}
 use Rattle.retain_command.specs.Working.{IsHeld}
-use Rattle.retain_command.proofs.RunLemmas.{answers_told, costs_begun, costs_told, counted_by, ends_of, ends_told, faults_told, held_by, lasts_none, lasts_told, never_known, no_answers, no_faults, none_costs, none_swept, unknown}
+use Rattle.retain_command.proofs.RunLemmas.{answers_told, costs_begun, costs_told, counted_by, ends_of, ends_told, faults_told, held_by}
+use Rattle.retain_command.proofs.RunLemmas.{lasts_none, lasts_told, never_known, no_answers, no_faults, none_costs, none_swept, unknown}
 use Rattle.retain_command.proofs.sweeping.sweep_lines.Goals as goal
 
 pub returns-in_default-clause-ends : goal.returns-in_default-clause-ends
 returns-in_default-clause-ends g c = λ total book told stands.
     let pages = shown.pages c.args.store.now in
-    none_swept total book (counted_by (shown.view c.args.store.now)) (g.P.Streams.left pages) (g.P.Streams.left pages) (g.P.Streams.sent pages) (shown.image c.args.store.now) stands
+    none_swept total book (counted_by (shown.view c.args.store.now)) (g.P.Streams.left pages) (g.P.Streams.left pages)
+    (g.P.Streams.sent pages) (shown.image c.args.store.now) stands
 
 pub returns-in_default-clause-crash : goal.returns-in_default-clause-crash
 returns-in_default-clause-crash g c = λ total book told stands.
     let pages = shown.pages c.args.store.now in
-    lasts_none total book (counted_by (shown.view c.args.store.now)) (g.P.Streams.left pages) (g.P.Streams.sent pages) (shown.view c.args.store.now) (g.met.P.Pages.rests pages c.requires.sound) stands
+    lasts_none total book (counted_by (shown.view c.args.store.now)) (g.P.Streams.left pages) (g.P.Streams.sent pages)
+    (shown.view c.args.store.now) (g.met.P.Pages.rests pages c.requires.sound) stands
 
 pub returns-in_default-clause-costs : goal.returns-in_default-clause-costs
-returns-in_default-clause-costs g c = λ total book told stands. none_costs total book (g.P.Streams.left (shown.pages c.args.store.now)) (shown.view c.args.store.now)
+returns-in_default-clause-costs g c = λ total book told stands. none_costs total book (g.P.Streams.left (shown.pages c.args.store.now))
+    (shown.view c.args.store.now)
 
 pub returns-in_default-clause-faulty : goal.returns-in_default-clause-faulty
 returns-in_default-clause-faulty g c = no_faults (shown.catalog c.args.store.now) (g.P.Streams.left (shown.pages c.args.store.now))
@@ -42,8 +46,10 @@ returns-clause-ends g c = λ total book told stands.
     let is : held.known ≡ true → IsHeld (shown.IsTold old) (shown.view old) held = λ known. (told, stands, costs_begun (shown.view old)) in
     let E : End → Type 0 = λ end. EndsOn g.P.Streams total book old new end in
     subst E (sym c.run_end.ensures)
-    (ends_of total book (shown.view old) (shown.view new) (left pages) (left (shown.pages new)) (sent pages) (sent (shown.pages new)) (run_end c.run_lines-answer.result)
-    (ends_told total book (counted_by (shown.view old)) (shown.IsTold new) (shown.view new) (IsBadOn new) (shown.catalog new) (left pages) (left (shown.pages new)) (sent pages) (sent (shown.pages new))
+    (ends_of total book (shown.view old) (shown.view new) (left pages) (left (shown.pages new)) (sent pages) (sent (shown.pages new))
+    (run_end c.run_lines-answer.result)
+    (ends_told total book (counted_by (shown.view old)) (shown.IsTold new) (shown.view new) (IsBadOn new) (shown.catalog new) (left pages)
+    (left (shown.pages new)) (sent pages) (sent (shown.pages new))
     (g.P.Streams.pieces pages) (g.P.Streams.pieces (shown.pages new)) c.run_lines-answer.result e.within
     (e.done held is) (e.stops held is)))
 
@@ -57,8 +63,10 @@ returns-clause-costs g c = λ total book told stands.
     let e = c.run_lines-answer.ensures in
     let held = held_by total book (counted_by (shown.view old)) in
     let is : held.known ≡ true → IsHeld (shown.IsTold old) (shown.view old) held = λ known. (told, stands, costs_begun (shown.view old)) in
-    costs_told total book (shown.view old) (shown.view new) (left pages) (left (shown.pages new)) (sent pages) (sent (shown.pages new)) (run_end c.run_lines-answer.result)
-    (ends_told total book (counted_by (shown.view old)) (shown.IsTold new) (shown.view new) (IsBadOn new) (shown.catalog new) (left pages) (left (shown.pages new)) (sent pages) (sent (shown.pages new))
+    costs_told total book (shown.view old) (shown.view new) (left pages) (left (shown.pages new)) (sent pages) (sent (shown.pages new))
+    (run_end c.run_lines-answer.result)
+    (ends_told total book (counted_by (shown.view old)) (shown.IsTold new) (shown.view new) (IsBadOn new) (shown.catalog new) (left pages)
+    (left (shown.pages new)) (sent pages) (sent (shown.pages new))
     (g.P.Streams.pieces pages) (g.P.Streams.pieces (shown.pages new)) c.run_lines-answer.result e.within
     (e.done held is) (e.stops held is))
 
@@ -71,12 +79,14 @@ returns-clause-faulty g c =
     let new = c.run_lines-answer.new.from in
     let F : End → Type 0 = λ end. IsAtFault g.P.Streams old new end in
     subst F (sym c.run_end.ensures)
-    (faults_told (shown.IsTold new) (shown.view new) (IsBadOn new) (shown.catalog new) (left pages) (left (shown.pages new)) (sent pages) (sent (shown.pages new))
+    (faults_told (shown.IsTold new) (shown.view new) (IsBadOn new) (shown.catalog new) (left pages) (left (shown.pages new)) (sent pages)
+    (sent (shown.pages new))
     (g.P.Streams.pieces pages) (g.P.Streams.pieces (shown.pages new)) c.run_lines-answer.result
     (c.run_lines-answer.ensures.stops unknown (λ known. never_known known)))
 
 pub returns-in_default-clause-answered : goal.returns-in_default-clause-answered
-returns-in_default-clause-answered g c = no_answers (g.P.Streams.sent (shown.pages c.args.store.now)) (g.P.Streams.left (shown.pages c.args.store.now))
+returns-in_default-clause-answered g c = no_answers (g.P.Streams.sent (shown.pages c.args.store.now))
+    (g.P.Streams.left (shown.pages c.args.store.now))
 
 pub returns-clause-answered : goal.returns-clause-answered
 returns-clause-answered g c =
@@ -88,7 +98,8 @@ returns-clause-answered g c =
     let e = c.run_lines-answer.ensures in
     let F : End → Type 0 = λ end. IsAnsweredSo g.P.Streams old new end in
     subst F (sym c.run_end.ensures)
-    (answers_told (shown.IsTold new) (shown.view new) (IsBadOn new) (shown.catalog new) (left pages) (left (shown.pages new)) (sent pages) (sent (shown.pages new))
+    (answers_told (shown.IsTold new) (shown.view new) (IsBadOn new) (shown.catalog new) (left pages) (left (shown.pages new)) (sent pages)
+    (sent (shown.pages new))
     (g.P.Streams.pieces pages) (g.P.Streams.pieces (shown.pages new)) c.run_lines-answer.result
     (e.done unknown (λ known. never_known known)) (e.stops unknown (λ known. never_known known)))
 
@@ -107,7 +118,8 @@ returns-clause-within g c =
     let e = c.run_lines-answer.ensures in
     let W : End → Type 0 = λ end. end ≡ Done → IfSome (g.P.Streams.left (shown.pages c.args.store.now)) (λ input. length input ≤ 2 ^ 32) in
     subst W (sym c.run_end.ensures)
-    (came_to_end (λ end s s'. IsCause end (side s) (side s') × (end ≢ InputTooLong)) c.args.store.now c.run_lines-answer.new.from c.run_lines-answer.result (λ none. none.0) e.within e.cause)
+    (came_to_end (λ end s s'. IsCause end (side s) (side s')
+    × (end ≢ InputTooLong)) c.args.store.now c.run_lines-answer.new.from c.run_lines-answer.result (λ none. none.0) e.within e.cause)
 
 pub returns-clause-whole : goal.returns-clause-whole
 returns-clause-whole g c =
@@ -118,7 +130,8 @@ returns-clause-whole g c =
     let e = c.run_lines-answer.ensures in
     let W : End → Type 0 = λ end. end ≡ Done → IsReadUp (left (shown.pages old)) (left (shown.pages new)) in
     subst W (sym c.run_end.ensures)
-    (came_to_end (λ end s s'. IsCause end (side s) (side s') × (end ≢ InputTooLong)) old new c.run_lines-answer.result (λ none. none.0) e.whole e.cause)
+    (came_to_end (λ end s s'. IsCause end (side s) (side s')
+    × (end ≢ InputTooLong)) old new c.run_lines-answer.result (λ none. none.0) e.whole e.cause)
 
 pub returns-clause-long : goal.returns-clause-long
 returns-clause-long g c =
@@ -128,7 +141,8 @@ returns-clause-long g c =
     let e = c.run_lines-answer.ensures in
     let L : End → Type 0 = λ end. end ≡ InputTooLong → IfSome (g.P.Streams.left (shown.pages old)) (λ input. 2 ^ 32 < length input) in
     subst L (sym c.run_end.ensures)
-    (input_long (λ end s s'. IsCause end (side s) (side s') × (end ≢ InputTooLong)) old new c.run_lines-answer.result (λ never. never.1 refl) e.long e.cause)
+    (input_long (λ end s s'. IsCause end (side s) (side s')
+    × (end ≢ InputTooLong)) old new c.run_lines-answer.result (λ never. never.1 refl) e.long e.cause)
 
 pub returns-clause-cause : goal.returns-clause-cause
 returns-clause-cause g c =

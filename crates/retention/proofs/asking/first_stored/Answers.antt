@@ -10,14 +10,16 @@ use Rattle.retention.proofs.Counting.{ask_counts}
 use Rattle.retention.proofs.asking.first_stored.Goals as goal
 
 pub returns-in-Ok-clause-faults : goal.returns-in-Ok-clause-faults
-returns-in-Ok-clause-faults g c = counts_no_disk (shown.view c.args.store.now) (shown.view c.first_in.new.nodes) c.first_in.ensures.kept.pages.beside c.in-Ok.ensures.quiet
+returns-in-Ok-clause-faults g c = counts_no_disk (shown.view c.args.store.now)
+    (shown.view c.first_in.new.nodes) c.first_in.ensures.kept.pages.beside c.in-Ok.ensures.quiet
 
 pub returns-in-Err-clause-faults : goal.returns-in-Err-clause-faults
 returns-in-Err-clause-faults g c =
     let old = c.args.store.now in
     let new = c.first_in.new.nodes in
     let P : SweepError → Type 0 = λ e. CountsFault (sweep_fault e) (shown.view old) (shown.view new) in
-    subst P (sym c.node_error.ensures) (ask_counts c.in-Err.error (shown.view old) (shown.view new) (shown.nodes old) (shown.nodes new) c.first_in.ensures.kept.pages.beside refl refl c.in-Err.ensures.quiet_err c.in-Err.ensures.cause)
+    subst P (sym c.node_error.ensures) (ask_counts c.in-Err.error (shown.view old) (shown.view new) (shown.nodes old)
+    (shown.nodes new) c.first_in.ensures.kept.pages.beside refl refl c.in-Err.ensures.quiet_err c.in-Err.ensures.cause)
 
 pub returns-in-Ok-clause-reads : goal.returns-in-Ok-clause-reads
 returns-in-Ok-clause-reads g c =

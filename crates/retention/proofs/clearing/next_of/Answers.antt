@@ -11,11 +11,13 @@ use Rattle.retention.proofs.clearing.next_of.Goals as goal
 
 pub returns-in-Err-clause-outside : goal.returns-in-Err-clause-outside
 returns-in-Err-clause-outside g c = λ total book series told stands at.
-    ask_outside c.in-Err.error (shown.nodes c.selected-axis.new.store) (shown.nodes c.first_stored.new.store) (c.selected-axis.ensures.whole total book series told stands at) c.in-Err.ensures.cause
+    ask_outside c.in-Err.error (shown.nodes c.selected-axis.new.store) (shown.nodes c.first_stored.new.store)
+    (c.selected-axis.ensures.whole total book series told stands at) c.in-Err.ensures.cause
 
 pub returns-in_default-clause-first : goal.returns-in_default-clause-first
 returns-in_default-clause-first g c = λ total book series told stands at.
-    none_first series.slots c.old_slots-old.result _ c.in-Ok.found (c.old_slots-old.ensures.old series (c.selected-axis.ensures.axis total book series told stands at)) c.in_default.is
+    none_first series.slots c.old_slots-old.result _ c.in-Ok.found
+    (c.old_slots-old.ensures.old series (c.selected-axis.ensures.axis total book series told stands at)) c.in_default.is
     (c.in-Ok.ensures.first series.slots (c.selected-axis.ensures.agrees total book series told stands at))
 
 pub returns-clause-first : goal.returns-clause-first
@@ -28,18 +30,22 @@ returns-clause-first g c = λ total book series told stands at.
     (c.in_ok-clear.ensures.clear series axis)
 
 pub returns-in-Err-clause-faults : goal.returns-in-Err-clause-faults
-returns-in-Err-clause-faults g c = counts_then (sweep_fault c.in-Err.error) (shown.view c.args.store.now) (shown.view c.selected-axis.new.store) (shown.view c.first_stored.new.store) c.selected-axis.ensures.faults c.in-Err.ensures.faults
+returns-in-Err-clause-faults g c = counts_then (sweep_fault c.in-Err.error) (shown.view c.args.store.now)
+    (shown.view c.selected-axis.new.store) (shown.view c.first_stored.new.store) c.selected-axis.ensures.faults c.in-Err.ensures.faults
 
 pub returns-in_default-clause-faults : goal.returns-in_default-clause-faults
-returns-in_default-clause-faults g c = counts_then None (shown.view c.args.store.now) (shown.view c.selected-axis.new.store) (shown.view c.first_stored.new.store) c.selected-axis.ensures.faults c.in-Ok.ensures.faults
+returns-in_default-clause-faults g c = counts_then None (shown.view c.args.store.now) (shown.view c.selected-axis.new.store)
+    (shown.view c.first_stored.new.store) c.selected-axis.ensures.faults c.in-Ok.ensures.faults
 
 pub returns-in_err-clear-clause-faults : goal.returns-in_err-clear-clause-faults
 returns-in_err-clear-clause-faults g c =
     no_memory_on c.from_residual.result (shown.view c.args.store.now) (shown.view c.first_stored.new.store) c.from_residual.ensures.1
-    (counts_then None (shown.view c.args.store.now) (shown.view c.selected-axis.new.store) (shown.view c.first_stored.new.store) c.selected-axis.ensures.faults c.in-Ok.ensures.faults)
+    (counts_then None (shown.view c.args.store.now) (shown.view c.selected-axis.new.store)
+    (shown.view c.first_stored.new.store) c.selected-axis.ensures.faults c.in-Ok.ensures.faults)
 
 pub returns-clause-faults : goal.returns-clause-faults
-returns-clause-faults g c = counts_then None (shown.view c.args.store.now) (shown.view c.selected-axis.new.store) (shown.view c.first_stored.new.store) c.selected-axis.ensures.faults c.in-Ok.ensures.faults
+returns-clause-faults g c = counts_then None (shown.view c.args.store.now) (shown.view c.selected-axis.new.store)
+    (shown.view c.first_stored.new.store) c.selected-axis.ensures.faults c.in-Ok.ensures.faults
 
 pub returns-in-Err-clause-looks : goal.returns-in-Err-clause-looks
 returns-in-Err-clause-looks g c = looks_then _ _ _ _ _ _ _ _ _ _ _ _ _ _ _ c.selected-axis.ensures.looks c.in-Err.ensures.looks
@@ -62,5 +68,6 @@ returns-in-Err-clause-blames g c =
     (λ page. shown.IsTold new → IsBadAt c.args.id (shown.view new).size (shown.image new) page)
     (λ page bad told.
     let was = looks.was_told told in
-    bad_on (IsBadAt c.args.id) (shown.view mid) (shown.view new) page (looks.image was) looks.size (c.selected-axis.ensures.bad_at page bad was))
+    bad_on (IsBadAt c.args.id) (shown.view mid) (shown.view new) page (looks.image was) looks.size
+    (c.selected-axis.ensures.bad_at page bad was))
     c.in-Err.ensures.cause

@@ -14,7 +14,9 @@ returns-in_default-clause-clear g c = λ total book told stands it oldest_slot k
 pub returns-clause-clear : goal.returns-clause-clear
 returns-clause-clear g c = λ total book told stands it oldest_slot kept.
     let named = c.in-Some.ensures.books total book c.requires.sound told stands in
-    let same : named.series ≡ it.series = same_Some named.series it.series (sym named.there ∙ ap (slice_get book) kept.id ∙ oldest_slot.there) in
+    let same : named.series ≡ it.series = same_Some named.series it.series (sym named.there ∙ ap (slice_get book) kept.id
+    ∙ oldest_slot.there) in
     ap (λ x. Some x)
     (c.in_ok-clear.ensures.clear it.series kept.axis
-    ∙ page_is it c.in-Some.series.name.now c.args.found.slot c.min-end.result c.args.found.axis.slots (named.name ∙ ap (λ (s : Series). s.name) same) kept.slot c.min-end.ensures kept.axis.slots)
+    ∙ page_is it c.in-Some.series.name.now c.args.found.slot c.min-end.result c.args.found.axis.slots (named.name
+    ∙ ap (λ (s : Series). s.name) same) kept.slot c.min-end.ensures kept.axis.slots)

@@ -23,7 +23,8 @@ returns-then-pages-from-clause-next g c = λ total book told stands.
 
 pub returns-in_default-clause-next : goal.returns-in_default-clause-next
 returns-in_default-clause-next g c = λ total book told stands.
-    free_none total c.args.pages book (none_kept (oldest book) c.in-Ok.found c.in_default.is (c.in-Ok.ensures.oldest total book told stands))
+    free_none total c.args.pages book (none_kept (oldest book) c.in-Ok.found c.in_default.is
+    (c.in-Ok.ensures.oldest total book told stands))
 
 pub returns-clause-next : goal.returns-clause-next
 returns-clause-next g c = λ total book told stands.
@@ -33,11 +34,13 @@ returns-clause-next g c = λ total book told stands.
     let it = some_kept (oldest book) c.in-Ok.found c.in-Some.found c.in-Some.is (c.in-Ok.ensures.oldest total book told stands) in
     let S : Image → Type 0 = λ i. StandsForBook i total book in
     let stands' = subst S (sym (c.in-Ok.ensures.looks.image told)) stands in
-    free_result total c.args.pages book it.0 c.clear_page.result stands.store.is_book (le_false c.args.pages (total - pages_of book) few) it.1
+    free_result total c.args.pages book it.0 c.clear_page.result stands.store.is_book
+    (le_false c.args.pages (total - pages_of book) few) it.1
     (c.clear_page.ensures.clear total book (c.in-Ok.ensures.looks.told told) stands' it.0 (oldest_is book it.0 it.1) it.2)
 
 pub returns-clause-faults : goal.returns-clause-faults
-returns-clause-faults g c = no_memory_counts c.clear_page.result (shown.view c.args.store.now) (shown.view c.oldest.new.store) c.clear_page.ensures.err c.in-Ok.ensures.faults
+returns-clause-faults g c = no_memory_counts c.clear_page.result (shown.view c.args.store.now)
+    (shown.view c.oldest.new.store) c.clear_page.ensures.err c.in-Ok.ensures.faults
 
 pub returns-in-Err-clause-blames : goal.returns-in-Err-clause-blames
 returns-in-Err-clause-blames g c =

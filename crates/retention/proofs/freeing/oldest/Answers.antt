@@ -18,10 +18,22 @@ use Rattle.retention.proofs.freeing.oldest.Goals as goal
 pub loop-id-init : goal.loop-id-init
 loop-id-init g c =
     let store = c.args.store.now in
-    record { sound = c.requires.sound; looks = looks_none (shown.IsTold store) (shown.view store) (shown.under store) (shown.numbers store) store.catalog; quiet = refl; reads = omega arith; best = λ total book told stands. kept_zero book }
+    record {
+      sound = c.requires.sound;
+      looks = looks_none (shown.IsTold store) (shown.view store) (shown.under store)
+          (shown.numbers store) store.catalog;
+      quiet = refl;
+      reads = omega arith;
+      best = λ total book told stands. kept_zero book;
+    }
 
 pub first_of-requires-clause-there : goal.first_of-requires-clause-there
-first_of-requires-clause-there g c = omega (arith, c.loop-id-test.true, c.len-count.ensures.count, ap (λ (k : Catalog). length (series_in k)) c.loop-id.invariant.looks.catalog_is)
+first_of-requires-clause-there g c = omega (
+  arith,
+  c.loop-id-test.true,
+  c.len-count.ensures.count,
+  ap (λ (k : Catalog). length (series_in k)) c.loop-id.invariant.looks.catalog_is,
+)
 
 pub loop-id-preserved : goal.loop-id-preserved
 loop-id-preserved g c =
@@ -29,15 +41,21 @@ loop-id-preserved g c =
     record {
       sound = c.in-Ok.ensures.looks.fit was.sound;
       looks = looks_then _ _ _ _ _ _ _ _ _ _ _ _ _ _ _ was.looks c.in-Ok.ensures.looks;
-      quiet = counts_then None (shown.view c.args.store.now) (shown.view c.loop-id.store) (shown.view c.first_of.new.store) was.quiet c.in-Ok.ensures.faults;
+      quiet = counts_then None (shown.view c.args.store.now) (shown.view c.loop-id.store)
+          (shown.view c.first_of.new.store) was.quiet c.in-Ok.ensures.faults;
       reads = omega (arith, was.reads, c.in-Ok.ensures.reads);
       best = λ total book told stands.
           let S : Image → Type 0 = λ i. StandsForBook i total book in
           let stands' = subst S (sym (was.looks.image told)) stands in
-          let low : c.loop-id.id < length book = omega (arith, c.loop-id-test.true, c.len-count.ensures.books total book c.requires.sound told stands) in
+          let low : c.loop-id.id < length book = omega (
+            arith,
+            c.loop-id-test.true,
+            c.len-count.ensures.books total book c.requires.sound told stands,
+          ) in
           let one = there book c.loop-id.id low in
           kept_more book c.loop-id.id one.0 c.older-best.result one.1
-          (c.older-best.ensures (oldest_among book c.loop-id.id) (found_at c.loop-id.id (Some one.0)) (was.best total book told stands) (c.in-Ok.ensures.first total book one.0 (was.looks.told told) stands' one.1));
+          (c.older-best.ensures (oldest_among book c.loop-id.id) (found_at c.loop-id.id (Some one.0)) (was.best total book told stands)
+          (c.in-Ok.ensures.first total book one.0 (was.looks.told told) stands' one.1));
     }
 
 pub returns-in-Err-clause-outside : goal.returns-in-Err-clause-outside
@@ -45,19 +63,31 @@ returns-in-Err-clause-outside g c = λ total book told stands.
     let was = c.loop-id.invariant in
     let S : Image → Type 0 = λ i. StandsForBook i total book in
     let stands' = subst S (sym (was.looks.image told)) stands in
-    let low : c.loop-id.id < length book = omega (arith, c.loop-id-test.true, c.len-count.ensures.books total book c.requires.sound told stands) in
+    let low : c.loop-id.id < length book = omega (
+      arith,
+      c.loop-id-test.true,
+      c.len-count.ensures.books total book c.requires.sound told stands,
+    ) in
     let one = there book c.loop-id.id low in
     c.in-Err.ensures.outside total book one.0 (was.looks.told told) stands' one.1
 
 pub returns-clause-oldest : goal.returns-clause-oldest
 returns-clause-oldest g c = λ total book told stands.
-    kept_all book c.loop-id.id c.len-count.result c.loop-id.best c.loop-id.auto.id-end c.loop-id-test.false (c.len-count.ensures.books total book c.requires.sound told stands) (c.loop-id.invariant.best total book told stands)
+    kept_all book c.loop-id.id c.len-count.result c.loop-id.best c.loop-id.auto.id-end c.loop-id-test.false
+    (c.len-count.ensures.books total book c.requires.sound told stands) (c.loop-id.invariant.best total book told stands)
 
 pub returns-in-Err-clause-faults : goal.returns-in-Err-clause-faults
-returns-in-Err-clause-faults g c = counts_then (sweep_fault c.in-Err.error) (shown.view c.args.store.now) (shown.view c.loop-id.store) (shown.view c.first_of.new.store) c.loop-id.invariant.quiet c.in-Err.ensures.faults
+returns-in-Err-clause-faults g c = counts_then (sweep_fault c.in-Err.error) (shown.view c.args.store.now) (shown.view c.loop-id.store)
+    (shown.view c.first_of.new.store) c.loop-id.invariant.quiet c.in-Err.ensures.faults
 
 pub returns-in-Err-clause-reads : goal.returns-in-Err-clause-reads
-returns-in-Err-clause-reads g c = omega (arith, c.loop-id.invariant.reads, c.in-Err.ensures.reads, c.loop-id-test.true, c.len-count.ensures.few)
+returns-in-Err-clause-reads g c = omega (
+  arith,
+  c.loop-id.invariant.reads,
+  c.in-Err.ensures.reads,
+  c.loop-id-test.true,
+  c.len-count.ensures.few,
+)
 
 pub returns-clause-reads : goal.returns-clause-reads
 returns-clause-reads g c = omega (arith, c.loop-id.invariant.reads, c.loop-id.auto.id-end, c.len-count.ensures.few)

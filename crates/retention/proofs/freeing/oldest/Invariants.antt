@@ -15,5 +15,6 @@ invariant-loop-id g l = record {
   looks : LooksOnly l.initial.store l.store;
   quiet : CountsFault None (shown.view l.initial.store) (shown.view l.store);
   reads : (shown.view l.store).reads ≤ (shown.view l.initial.store).reads + 105 * l.id;
-  best : (total : ℕ) (book : List Series) → shown.IsTold l.initial.store → StandsForBook (shown.image l.initial.store) total book → AreKept (oldest_among book l.id) l.best;
+  best : (total : ℕ) (book : List Series) → shown.IsTold l.initial.store → StandsForBook (shown.image l.initial.store) total book
+      → AreKept (oldest_among book l.id) l.best;
 }

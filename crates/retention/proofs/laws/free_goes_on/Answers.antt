@@ -17,4 +17,5 @@ returns-clause-nothing c = free_none
 pub returns-clause-next : goal.returns-clause-next
 returns-clause-next c = λ total pages book found is few at.
     let first = free_next total pages book found is (lt-leb pages (total - pages_of book) few) at in
-    first.first ∙ ap (λ (b : List Series). clear_page found ∷ sweeps total b (Free pages)) (sym (behind_first total book (Free pages) (clear_page found) first))
+    first.first ∙ ap (λ (b : List Series). clear_page found ∷ sweeps total b (Free pages))
+    (sym (behind_first total book (Free pages) (clear_page found) first))

@@ -31,42 +31,56 @@ returns-in_default-clause-idle g c = λ is. commits_looks 0 _ _ _ _ _ _ _ _ _ _ 
 
 pub returns-in-Ok-do_clear-clause-commits : goal.returns-in-Ok-do_clear-clause-commits
 returns-in-Ok-do_clear-clause-commits g c =
-    commits_then 0 1 (shown.view c.args.store.now) (shown.view c.next_clear.new.store) (shown.view c.do_clear.new.store) (commits_looks 0 _ _ _ _ _ _ _ _ _ _ c.in-Ok.ensures.looks) c.in-Ok-do_clear.ensures.commits
+    commits_then 0 1 (shown.view c.args.store.now) (shown.view c.next_clear.new.store) (shown.view c.do_clear.new.store)
+    (commits_looks 0 _ _ _ _ _ _ _ _ _ _ c.in-Ok.ensures.looks) c.in-Ok-do_clear.ensures.commits
 
 pub returns-clause-commits : goal.returns-clause-commits
 returns-clause-commits g c =
-    commits_then 0 1 (shown.view c.args.store.now) (shown.view c.next_clear.new.store) (shown.view c.do_clear.new.store) (commits_looks 0 _ _ _ _ _ _ _ _ _ _ c.in-Ok.ensures.looks) c.in-Err-do_clear.ensures.commits
+    commits_then 0 1 (shown.view c.args.store.now) (shown.view c.next_clear.new.store) (shown.view c.do_clear.new.store)
+    (commits_looks 0 _ _ _ _ _ _ _ _ _ _ c.in-Ok.ensures.looks) c.in-Err-do_clear.ensures.commits
 
 -- what was done
 
 pub returns-in-Err-clause-steps : goal.returns-in-Err-clause-steps
 returns-in-Err-clause-steps g c = λ total book told stands.
-    step_fails total book c.args.rule.now c.in-Err.error (shown.view c.args.store.now) (shown.view c.next_clear.new.store) (g.met.P.Pages.rests (shown.pages c.args.store.now) c.requires.sound) stands
-    (c.in-Err.ensures.looks.image told) c.in-Err.ensures.looks.time (c.in-Err.ensures.outside total book told stands) (commits_looks 0 _ _ _ _ _ _ _ _ _ _ c.in-Err.ensures.looks)
+    step_fails total book c.args.rule.now c.in-Err.error (shown.view c.args.store.now) (shown.view c.next_clear.new.store)
+    (g.met.P.Pages.rests (shown.pages c.args.store.now) c.requires.sound) stands
+    (c.in-Err.ensures.looks.image told) c.in-Err.ensures.looks.time (c.in-Err.ensures.outside total book told stands)
+    (commits_looks 0 _ _ _ _ _ _ _ _ _ _ c.in-Err.ensures.looks)
 
 pub returns-in-Ok-do_clear-clause-steps : goal.returns-in-Ok-do_clear-clause-steps
 returns-in-Ok-do_clear-clause-steps g c = λ total book told stands.
     let S : Image → Type 0 = λ i. StandsForBook i total book in
     let stands' = subst S (sym (c.in-Ok.ensures.looks.image told)) stands in
-    let next = next_some total book c.args.rule.now c.in-Ok.next c.in-Some.clear c.in-Some.is (c.in-Ok.ensures.next total book told stands) in
-    step_done total book c.args.rule.now c.in-Some.clear next c.in-Ok-do_clear.field-0 (shown.view c.args.store.now) (shown.view c.next_clear.new.store) (shown.view c.do_clear.new.store) (g.met.P.Pages.rests (shown.pages c.args.store.now) c.requires.sound) stands
-    c.in-Ok.ensures.looks.time (c.in-Ok-do_clear.ensures.done total book (c.in-Ok.ensures.looks.told told) stands' next.after next.slots next.accepted)
+    let next = next_some total book c.args.rule.now c.in-Ok.next c.in-Some.clear c.in-Some.is
+    (c.in-Ok.ensures.next total book told stands) in
+    step_done total book c.args.rule.now c.in-Some.clear next c.in-Ok-do_clear.field-0 (shown.view c.args.store.now)
+    (shown.view c.next_clear.new.store) (shown.view c.do_clear.new.store)
+    (g.met.P.Pages.rests (shown.pages c.args.store.now) c.requires.sound) stands
+    c.in-Ok.ensures.looks.time (c.in-Ok-do_clear.ensures.done total book
+    (c.in-Ok.ensures.looks.told told) stands' next.after next.slots next.accepted)
     (returns-in-Ok-do_clear-clause-commits g c)
 
 pub returns-clause-steps : goal.returns-clause-steps
 returns-clause-steps g c = λ total book told stands.
     let S : Image → Type 0 = λ i. StandsForBook i total book in
     let stands' = subst S (sym (c.in-Ok.ensures.looks.image told)) stands in
-    let next = next_some total book c.args.rule.now c.in-Ok.next c.in-Some.clear c.in-Some.is (c.in-Ok.ensures.next total book told stands) in
-    step_stops total book c.args.rule.now c.in-Some.clear next c.in-Err-do_clear.error (shown.view c.args.store.now) (shown.view c.next_clear.new.store) (shown.view c.do_clear.new.store) (g.met.P.Pages.rests (shown.pages c.args.store.now) c.requires.sound) stands
-    c.in-Ok.ensures.looks.time (c.in-Err-do_clear.ensures.done total book (c.in-Ok.ensures.looks.told told) stands' next.after next.slots next.accepted)
+    let next = next_some total book c.args.rule.now c.in-Ok.next c.in-Some.clear c.in-Some.is
+    (c.in-Ok.ensures.next total book told stands) in
+    step_stops total book c.args.rule.now c.in-Some.clear next c.in-Err-do_clear.error (shown.view c.args.store.now)
+    (shown.view c.next_clear.new.store) (shown.view c.do_clear.new.store)
+    (g.met.P.Pages.rests (shown.pages c.args.store.now) c.requires.sound) stands
+    c.in-Ok.ensures.looks.time (c.in-Err-do_clear.ensures.done total book
+    (c.in-Ok.ensures.looks.told told) stands' next.after next.slots next.accepted)
     (returns-clause-commits g c)
 
 pub returns-in-Ok-do_clear-clause-faults : goal.returns-in-Ok-do_clear-clause-faults
-returns-in-Ok-do_clear-clause-faults g c = counts_then None (shown.view c.args.store.now) (shown.view c.next_clear.new.store) (shown.view c.do_clear.new.store) c.in-Ok.ensures.faults c.in-Ok-do_clear.ensures.faults
+returns-in-Ok-do_clear-clause-faults g c = counts_then None (shown.view c.args.store.now) (shown.view c.next_clear.new.store)
+    (shown.view c.do_clear.new.store) c.in-Ok.ensures.faults c.in-Ok-do_clear.ensures.faults
 
 pub returns-clause-faults : goal.returns-clause-faults
-returns-clause-faults g c = counts_then (sweep_fault c.in-Err-do_clear.error) (shown.view c.args.store.now) (shown.view c.next_clear.new.store) (shown.view c.do_clear.new.store) c.in-Ok.ensures.faults c.in-Err-do_clear.ensures.faults
+returns-clause-faults g c = counts_then (sweep_fault c.in-Err-do_clear.error) (shown.view c.args.store.now)
+    (shown.view c.next_clear.new.store) (shown.view c.do_clear.new.store) c.in-Ok.ensures.faults c.in-Err-do_clear.ensures.faults
 
 pub do_clear-requires-clause-sound : goal.do_clear-requires-clause-sound
 do_clear-requires-clause-sound g c = c.in-Ok.ensures.looks.fit c.requires.sound
@@ -84,12 +98,15 @@ pub returns-in-Err-clause-faults : goal.returns-in-Err-clause-faults
 returns-in-Err-clause-faults g c = c.in-Err.ensures.faults
 
 pub returns-in-Err-clause-sound_for : goal.returns-in-Err-clause-sound_for
-returns-in-Err-clause-sound_for g c = looks_sound c.in-Err.error (shown.view c.next_clear.new.store) (c.in-Err.ensures.looks.fit c.requires.sound)
+returns-in-Err-clause-sound_for g c = looks_sound c.in-Err.error (shown.view c.next_clear.new.store)
+    (c.in-Err.ensures.looks.fit c.requires.sound)
 
 pub returns-in_default-clause-steps : goal.returns-in_default-clause-steps
 returns-in_default-clause-steps g c = λ total book told stands.
-    step_none total book c.args.rule.now (shown.view c.args.store.now) (shown.view c.next_clear.new.store) (g.met.P.Pages.rests (shown.pages c.args.store.now) c.requires.sound) stands
-    (c.in-Ok.ensures.looks.image told) c.in-Ok.ensures.looks.time (commits_looks 0 _ _ _ _ _ _ _ _ _ _ c.in-Ok.ensures.looks) (next_none total book c.args.rule.now c.in-Ok.next c.in_default.is (c.in-Ok.ensures.next total book told stands))
+    step_none total book c.args.rule.now (shown.view c.args.store.now) (shown.view c.next_clear.new.store)
+    (g.met.P.Pages.rests (shown.pages c.args.store.now) c.requires.sound) stands
+    (c.in-Ok.ensures.looks.image told) c.in-Ok.ensures.looks.time (commits_looks 0 _ _ _ _ _ _ _ _ _ _ c.in-Ok.ensures.looks)
+    (next_none total book c.args.rule.now c.in-Ok.next c.in_default.is (c.in-Ok.ensures.next total book told stands))
 
 pub returns-in_default-clause-carries : goal.returns-in_default-clause-carries
 returns-in_default-clause-carries g c = carries_looks _ _ _ _ _ _ _ _ _ _ c.in-Ok.ensures.looks
@@ -101,7 +118,8 @@ pub returns-in_default-clause-sound : goal.returns-in_default-clause-sound
 returns-in_default-clause-sound g c = c.in-Ok.ensures.looks.fit c.requires.sound
 
 pub returns-in-Ok-do_clear-clause-carries : goal.returns-in-Ok-do_clear-clause-carries
-returns-in-Ok-do_clear-clause-carries g c = carries_then _ _ _ _ _ _ _ _ _ _ _ _ _ _ _ (carries_looks _ _ _ _ _ _ _ _ _ _ c.in-Ok.ensures.looks) c.in-Ok-do_clear.ensures.carries
+returns-in-Ok-do_clear-clause-carries g c = carries_then _ _ _ _ _ _ _ _ _ _ _ _ _ _ _
+    (carries_looks _ _ _ _ _ _ _ _ _ _ c.in-Ok.ensures.looks) c.in-Ok-do_clear.ensures.carries
 
 pub returns-in-Ok-do_clear-clause-idle : goal.returns-in-Ok-do_clear-clause-idle
 returns-in-Ok-do_clear-clause-idle g c = λ is. absurd (ok_apart is)
@@ -110,15 +128,20 @@ pub returns-in-Ok-do_clear-clause-sound : goal.returns-in-Ok-do_clear-clause-sou
 returns-in-Ok-do_clear-clause-sound g c = c.in-Ok-do_clear.ensures.sound
 
 pub returns-clause-carries : goal.returns-clause-carries
-returns-clause-carries g c = carries_then _ _ _ _ _ _ _ _ _ _ _ _ _ _ _ (carries_looks _ _ _ _ _ _ _ _ _ _ c.in-Ok.ensures.looks) c.in-Err-do_clear.ensures.carries
+returns-clause-carries g c = carries_then _ _ _ _ _ _ _ _ _ _ _ _ _ _ _
+    (carries_looks _ _ _ _ _ _ _ _ _ _ c.in-Ok.ensures.looks) c.in-Err-do_clear.ensures.carries
 
 pub returns-clause-idle : goal.returns-clause-idle
 returns-clause-idle g c = λ is. absurd (err_ok _ _ is)
 
 pub returns-clause-cause : goal.returns-clause-cause
 returns-clause-cause g c =
-    read_later c.in-Err-do_clear.error (shown.IsTold c.do_clear.new.store) (shown.total c.args.store.now) (shown.total c.next_clear.new.store) (shown.view c.args.store.now) (shown.view c.next_clear.new.store) (shown.view c.do_clear.new.store)
-    (ap (λ (x : Superblock). x.total) c.in-Ok.ensures.looks.superblock) (disk_stays (shown.view c.args.store.now) (shown.view c.next_clear.new.store) c.in-Ok.ensures.faults) c.in-Err-do_clear.ensures.cause
+    read_later c.in-Err-do_clear.error (shown.IsTold c.do_clear.new.store) (shown.total c.args.store.now)
+    (shown.total c.next_clear.new.store) (shown.view c.args.store.now) (shown.view c.next_clear.new.store)
+    (shown.view c.do_clear.new.store)
+    (ap (λ (x : Superblock). x.total) c.in-Ok.ensures.looks.superblock)
+    (disk_stays (shown.view c.args.store.now) (shown.view c.next_clear.new.store) c.in-Ok.ensures.faults)
+    c.in-Err-do_clear.ensures.cause
 
 pub returns-clause-sound_for : goal.returns-clause-sound_for
 returns-clause-sound_for g c = c.in-Err-do_clear.ensures.sound_for

@@ -17,7 +17,8 @@ invariant-clearing g l = record {
   few : l.clears ≤ l.most;
   commits : Commits l.clears l.initial.store l.store;
   reads : (shown.view l.store).reads ≤ (shown.view l.initial.store).reads + clear_reads * l.clears;
-  going : (total : ℕ) (book : List Series) → shown.IsTold l.initial.store → StandsForBook (shown.image l.initial.store) total book → Going total book l.rule l.most l.clears (shown.view l.initial.store) (shown.view l.store);
+  going : (total : ℕ) (book : List Series) → shown.IsTold l.initial.store → StandsForBook (shown.image l.initial.store) total book
+      → Going total book l.rule l.most l.clears (shown.view l.initial.store) (shown.view l.store);
 }
 
 abbrev pub decreases-clearing : goal.decreases-clearing

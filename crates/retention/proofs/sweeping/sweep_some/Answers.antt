@@ -3,7 +3,8 @@ use Rattle.retention.proofs.SweepLemmas.{not_unknown, true_false}
 use Rattle.retention.proofs.sweeping.sweep_some.Goals as goal
 
 pub returns-then-names_none-clause-unknown : goal.returns-then-names_none-clause-unknown
-returns-then-names_none-clause-unknown g c = λ total book told stands. (λ same. c.names_none.ensures.none total book told stands c.if-names_none.true, λ names. refl)
+returns-then-names_none-clause-unknown g c = λ total book told stands.
+    (λ same. c.names_none.ensures.none total book told stands c.if-names_none.true, λ names. refl)
 
 pub returns-then-names_none-clause-stops : goal.returns-then-names_none-clause-stops
 returns-then-names_none-clause-stops g c = λ total book told stands. c.names_none.ensures.none total book told stands c.if-names_none.true
@@ -11,7 +12,8 @@ returns-then-names_none-clause-stops g c = λ total book told stands. c.names_no
 pub returns-clause-unknown : goal.returns-clause-unknown
 returns-clause-unknown g c = λ total book told stands. (
   λ same. absurd (not_unknown c.clear_some.result c.clear_some.ensures.known same),
-  λ names. let both : true ≡ false = sym (c.names_none.ensures.some total book told stands names) ∙ c.if-names_none.false in absurd (true_false both),
+  λ names. let both : true ≡ false = sym (c.names_none.ensures.some total book told stands names) ∙ c.if-names_none.false in
+      absurd (true_false both),
 )
 
 pub returns-clause-untouched : goal.returns-clause-untouched

@@ -21,7 +21,8 @@ take_in-requires-clause-later c = λ s is.
     let o = c.sample_at-sample.result in
     let old = kept grid c.args.axis (take slot slots) in
     let more : kept grid c.args.axis (take (slot + 1) slots) ≡ old ++ option_to_list o =
-    kept_more grid c.args.axis slots slot None c.loop-slot-test.true ∙ ap (λ x. old ++ option_to_list x) (sym c.sample_at-sample.ensures.value) in
+    kept_more grid c.args.axis slots slot None c.loop-slot-test.true
+    ∙ ap (λ x. old ++ option_to_list x) (sym c.sample_at-sample.ensures.value) in
     let points : sample_points (kept grid c.args.axis (take (slot + 1) slots)) ≡ sample_points old ++ sample_points (option_to_list o) =
     ap sample_points more ∙ map-append (λ (s : Sample). (s.time, s.value)) old (option_to_list o) in
     let Ordered : List (ℤ × ℤ) → Type 0 = λ ps. AreInOrder grid ps in
@@ -39,7 +40,8 @@ loop-slot-preserved c =
     let o = c.sample_at-sample.result in
     let old = kept grid c.args.axis (take slot slots) in
     let more : kept grid c.args.axis (take (slot + 1) slots) ≡ old ++ option_to_list o =
-    kept_more grid c.args.axis slots slot None c.loop-slot-test.true ∙ ap (λ x. old ++ option_to_list x) (sym c.sample_at-sample.ensures.value) in
+    kept_more grid c.args.axis slots slot None c.loop-slot-test.true
+    ∙ ap (λ x. old ++ option_to_list x) (sym c.sample_at-sample.ensures.value) in
     let points : sample_points (kept grid c.args.axis (take (slot + 1) slots)) ≡ sample_points old ++ sample_points (option_to_list o) =
     ap sample_points more ∙ map-append (λ (s : Sample). (s.time, s.value)) old (option_to_list o) in
     let Gathered : List (ℤ × ℤ) → Type 0 = λ ps. IsGathered ps c.take_in.new.groups in
@@ -54,7 +56,8 @@ returns-clause-rows c =
     let all : take c.loop-slot.slot slots ≡ slots = grind (arith, common_steps) in
     let Of : List (Option ℤ) → Type 0 = λ l. AreRowsOf c.args.grid (sample_points (kept c.args.grid c.args.axis l)) c.rows.result in
     let On : Grid → Type 0 = λ g. AreRowsOf g (sample_points (kept c.args.grid c.args.axis (take c.loop-slot.slot slots))) c.rows.result in
-    subst Of all (subst On c.loop-slot.invariant.grid (c.rows.ensures.rows (sample_points (kept c.args.grid c.args.axis (take c.loop-slot.slot slots))) c.loop-slot.invariant.gathered))
+    subst Of all (subst On c.loop-slot.invariant.grid
+    (c.rows.ensures.rows (sample_points (kept c.args.grid c.args.axis (take c.loop-slot.slot slots))) c.loop-slot.invariant.gathered))
 
 pub returns-clause-drawable : goal.returns-clause-drawable
 returns-clause-drawable c =

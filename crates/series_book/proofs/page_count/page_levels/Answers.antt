@@ -6,4 +6,5 @@ use Rattle.series_book.proofs.page_count.page_levels.Goals as goal
 pub returns-clause-levels : goal.returns-clause-levels
 returns-clause-levels c =
     let covers : c.args.slots ≤ PAGE_SLOTS ^ c.loop-covered.levels = rw (← c.loop-covered.invariant.covered) c.loop-covered-test.false in
-    sym (page_levels_is c.args.slots c.loop-covered.levels c.loop-covered.invariant.above_zero c.loop-covered.invariant.few covers c.loop-covered.invariant.least)
+    sym (page_levels_is c.args.slots c.loop-covered.levels c.loop-covered.invariant.above_zero c.loop-covered.invariant.few covers
+    c.loop-covered.invariant.least)

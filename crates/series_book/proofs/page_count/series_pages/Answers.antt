@@ -27,13 +27,24 @@ loop-preserved c = record {
   end = c.loop.invariant.end;
   few_levels = c.loop.invariant.few_levels;
   pages =
-      let size_is : ranges_with_value (c.loop.size * PAGE_SLOTS) c.args.slots.now ≡ ranges_with_value (PAGE_SLOTS ^ c.loop.counter * PAGE_SLOTS) c.args.slots.now =
+      let size_is : ranges_with_value (c.loop.size * PAGE_SLOTS) c.args.slots.now ≡ ranges_with_value
+      (PAGE_SLOTS ^ c.loop.counter * PAGE_SLOTS) c.args.slots.now =
       ap (λ n. ranges_with_value (n * PAGE_SLOTS) c.args.slots.now) c.loop.invariant.size in
-      omega (arith, level_pages-suc c.loop.counter c.args.slots.now, size_is, c.loop.invariant.pages, c.ranges_with_value-pages.ensures.ranges);
+      omega (
+        arith,
+        level_pages-suc c.loop.counter c.args.slots.now,
+        size_is,
+        c.loop.invariant.pages,
+        c.ranges_with_value-pages.ensures.ranges,
+      );
   few = omega (arith, c.ranges_with_value-pages.ensures.few);
 }
 
 pub returns-clause-pages : goal.returns-clause-pages
 returns-clause-pages c =
-    let last : c.loop.counter ≡ page_levels (length c.args.slots.now) = omega (arith, c.loop.auto.counter-end, c.page_levels-end.ensures.levels) in
+    let last : c.loop.counter ≡ page_levels (length c.args.slots.now) = omega (
+      arith,
+      c.loop.auto.counter-end,
+      c.page_levels-end.ensures.levels,
+    ) in
     series_pages_is c.args.slots.now c.loop.counter c.loop.pages last c.loop.invariant.pages

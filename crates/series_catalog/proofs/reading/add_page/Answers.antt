@@ -17,36 +17,54 @@ loop-number-init c = read_none c.args.bytes.now c.args.page c.args.count c.args.
 pub add_series-requires : goal.add_series-requires
 add_series-requires c =
     let all : c.in-Ok.view.count ≡ records_of c.args.page c.args.count = c.in-Ok.ensures.count ∙ c.records_of.ensures.count in
-    let next : IsNext c.args.bytes.now c.args.page c.args.count c.args.fresh c.loop-number.number (series_in c.args.catalog.now) c.in_ok-series.series =
-    next_is c.args.bytes.now c.in-Ok.view.bytes.now c.args.page c.args.count c.args.fresh c.in-Ok.view.fresh c.loop-number.number (series_in c.args.catalog.now) c.in_ok-series.series (entry_of_record c.record_at.result)
-    c.requires.low c.requires.read.len (omega (arith, c.loop-number-test.true, c.count-number-end.ensures.count, all)) c.in-Ok.ensures.bytes c.in-Ok.ensures.fresh c.record_at.ensures.entry c.record_at.ensures.fit c.in_ok-series.ensures in
+    let next : IsNext c.args.bytes.now c.args.page c.args.count c.args.fresh c.loop-number.number
+    (series_in c.args.catalog.now) c.in_ok-series.series =
+    next_is c.args.bytes.now c.in-Ok.view.bytes.now c.args.page c.args.count c.args.fresh c.in-Ok.view.fresh c.loop-number.number
+    (series_in c.args.catalog.now) c.in_ok-series.series (entry_of_record c.record_at.result)
+    c.requires.low c.requires.read.len (omega (arith, c.loop-number-test.true, c.count-number-end.ensures.count, all)) c.in-Ok.ensures.bytes
+    c.in-Ok.ensures.fresh c.record_at.ensures.entry c.record_at.ensures.fit c.in_ok-series.ensures in
     omega (arith, c.loop-number.invariant.len, next.place.within, c.requires.few)
 
 pub loop-number-preserved : goal.loop-number-preserved
 loop-number-preserved c =
     let all : c.in-Ok.view.count ≡ records_of c.args.page c.args.count = c.in-Ok.ensures.count ∙ c.records_of.ensures.count in
-    let next : IsNext c.args.bytes.now c.args.page c.args.count c.args.fresh c.loop-number.number (series_in c.args.catalog.now) c.in_ok-series.series =
-    next_is c.args.bytes.now c.in-Ok.view.bytes.now c.args.page c.args.count c.args.fresh c.in-Ok.view.fresh c.loop-number.number (series_in c.args.catalog.now) c.in_ok-series.series (entry_of_record c.record_at.result)
-    c.requires.low c.requires.read.len (omega (arith, c.loop-number-test.true, c.count-number-end.ensures.count, all)) c.in-Ok.ensures.bytes c.in-Ok.ensures.fresh c.record_at.ensures.entry c.record_at.ensures.fit c.in_ok-series.ensures in
-    read_more c.args.bytes.now c.args.page c.args.count c.args.fresh c.loop-number.number (series_in c.args.catalog.now) (series_in c.loop-number.catalog) (series_in c.add_series.new.catalog) c.in_ok-series.series
+    let next : IsNext c.args.bytes.now c.args.page c.args.count c.args.fresh c.loop-number.number
+    (series_in c.args.catalog.now) c.in_ok-series.series =
+    next_is c.args.bytes.now c.in-Ok.view.bytes.now c.args.page c.args.count c.args.fresh c.in-Ok.view.fresh c.loop-number.number
+    (series_in c.args.catalog.now) c.in_ok-series.series (entry_of_record c.record_at.result)
+    c.requires.low c.requires.read.len (omega (arith, c.loop-number-test.true, c.count-number-end.ensures.count, all)) c.in-Ok.ensures.bytes
+    c.in-Ok.ensures.fresh c.record_at.ensures.entry c.record_at.ensures.fit c.in_ok-series.ensures in
+    read_more c.args.bytes.now c.args.page c.args.count c.args.fresh c.loop-number.number (series_in c.args.catalog.now)
+    (series_in c.loop-number.catalog) (series_in c.add_series.new.catalog) c.in_ok-series.series
     next c.in_ok-add_series.ensures.added c.in_ok-add_series.ensures.new_name c.loop-number.invariant
 
 pub returns-in_err-add_series-clause-cause : goal.returns-in_err-add_series-clause-cause
 returns-in_err-add_series-clause-cause c =
     let all : c.in-Ok.view.count ≡ records_of c.args.page c.args.count = c.in-Ok.ensures.count ∙ c.records_of.ensures.count in
-    let next : IsNext c.args.bytes.now c.args.page c.args.count c.args.fresh c.loop-number.number (series_in c.args.catalog.now) c.in_ok-series.series =
-    next_is c.args.bytes.now c.in-Ok.view.bytes.now c.args.page c.args.count c.args.fresh c.in-Ok.view.fresh c.loop-number.number (series_in c.args.catalog.now) c.in_ok-series.series (entry_of_record c.record_at.result)
-    c.requires.low c.requires.read.len (omega (arith, c.loop-number-test.true, c.count-number-end.ensures.count, all)) c.in-Ok.ensures.bytes c.in-Ok.ensures.fresh c.record_at.ensures.entry c.record_at.ensures.fit c.in_ok-series.ensures in
-    let bad : place_of c.in_ok-series.series.name (series_in c.loop-number.catalog) ≢ None → (image : Image) → image c.args.page ≡ c.args.bytes.now → AreAsTold image (series_in c.args.catalog.now) → IsBadPage c.args.page c.args.count c.args.fresh c.args.bytes.now image =
-    λ some image same were. inr (bad_more c.args.bytes.now c.args.page c.args.count c.args.fresh c.loop-number.number (series_in c.args.catalog.now) (series_in c.loop-number.catalog) c.in_ok-series.series image next c.loop-number.invariant some same were) in
+    let next : IsNext c.args.bytes.now c.args.page c.args.count c.args.fresh c.loop-number.number
+    (series_in c.args.catalog.now) c.in_ok-series.series =
+    next_is c.args.bytes.now c.in-Ok.view.bytes.now c.args.page c.args.count c.args.fresh c.in-Ok.view.fresh c.loop-number.number
+    (series_in c.args.catalog.now) c.in_ok-series.series (entry_of_record c.record_at.result)
+    c.requires.low c.requires.read.len (omega (arith, c.loop-number-test.true, c.count-number-end.ensures.count, all)) c.in-Ok.ensures.bytes
+    c.in-Ok.ensures.fresh c.record_at.ensures.entry c.record_at.ensures.fit c.in_ok-series.ensures in
+    let bad : place_of c.in_ok-series.series.name (series_in c.loop-number.catalog) ≢ None → (image : Image)
+    → image c.args.page ≡ c.args.bytes.now → AreAsTold image (series_in c.args.catalog.now)
+    → IsBadPage c.args.page c.args.count c.args.fresh c.args.bytes.now image =
+    λ some image same were. inr (bad_more c.args.bytes.now c.args.page c.args.count c.args.fresh c.loop-number.number
+    (series_in c.args.catalog.now) (series_in c.loop-number.catalog) c.in_ok-series.series image next c.loop-number.invariant some same
+    were) in
     error_so _ _ c.from_residual-in_err-add_series.result c.from_residual-in_err-add_series.ensures.1 (λ e is.
-    let P : CatalogError → Type 0 = λ x. IsPageCause x c.args.page (place_of c.in_ok-series.series.name (series_in c.loop-number.catalog) ≢ None) in
+    let P : CatalogError → Type 0 = λ x. IsPageCause x c.args.page
+    (place_of c.in_ok-series.series.name (series_in c.loop-number.catalog) ≢ None) in
     page_cause_so e c.args.page (place_of c.in_ok-series.series.name (series_in c.loop-number.catalog) ≢ None)
-    ((image : Image) → image c.args.page ≡ c.args.bytes.now → AreAsTold image (series_in c.args.catalog.now) → IsBadPage c.args.page c.args.count c.args.fresh c.args.bytes.now image)
+    ((image : Image) → image c.args.page ≡ c.args.bytes.now → AreAsTold image (series_in c.args.catalog.now)
+    → IsBadPage c.args.page c.args.count c.args.fresh c.args.bytes.now image)
     bad (subst P (sym is) c.in_err-add_series.ensures.cause))
 
 pub returns-clause-read : goal.returns-clause-read
 returns-clause-read c =
     let all : c.in-Ok.view.count ≡ records_of c.args.page c.args.count = c.in-Ok.ensures.count ∙ c.records_of.ensures.count in
-    read_all c.args.bytes.now c.args.page c.args.count c.args.fresh c.loop-number.number (series_in c.args.catalog.now) (series_in c.loop-number.catalog) c.requires.low
-    (omega (arith, c.loop-number-test.false, c.loop-number.auto.number-end, c.count-number-end.ensures.count, all)) c.requires.read c.loop-number.invariant
+    read_all c.args.bytes.now c.args.page c.args.count c.args.fresh c.loop-number.number (series_in c.args.catalog.now)
+    (series_in c.loop-number.catalog) c.requires.low
+    (omega (arith, c.loop-number-test.false, c.loop-number.auto.number-end, c.count-number-end.ensures.count, all)) c.requires.read
+    c.loop-number.invariant

@@ -11,7 +11,8 @@ abbrev pub invariant-loop-page : goal.invariant-loop-page
 invariant-loop-page g l = record {
   read : AreRead (l.page - 1) (shown.numbers l.fn.space).series (shown.numbers l.fn.space).fresh (series_in l.catalog);
   told : shown.IsTold l.fn.space → AreAsTold (shown.image l.fn.space) (series_in l.catalog);
-  keeps : shown.IsTold l.fn.space → (p : ℕ) → 1 ≤ p → p < l.page → KeepsLayout (records_of p (shown.numbers l.fn.space).series) (shown.numbers l.fn.space).fresh (shown.image l.fn.space p);
+  keeps : shown.IsTold l.fn.space → (p : ℕ) → 1 ≤ p → p < l.page
+      → KeepsLayout (records_of p (shown.numbers l.fn.space).series) (shown.numbers l.fn.space).fresh (shown.image l.fn.space p);
   reads : ReadsUpTo (l.page - 1) l.fn.space l.space;
   goes_on : shown.TimeGoesOn l.fn.space l.space;
   superblock : shown.numbers l.space ≡ shown.numbers l.fn.space;

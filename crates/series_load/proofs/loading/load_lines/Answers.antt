@@ -17,7 +17,14 @@ use Rattle.series_load.proofs.SetLemmas.{edits_none}
 use Rattle.series_load.proofs.loading.load_lines.Goals as goal
 
 pub run_lines-requires : goal.run_lines-requires
-run_lines-requires g c = record { fit = (c.requires.sound, omega (arith, c.requires.points), edits_none c.args.loader.now.kept.sets.items c.args.loader.now.kept.ats.items c.requires.sets); fresh = c.requires.fresh }
+run_lines-requires g c = record {
+  fit = (
+    c.requires.sound,
+    omega (arith, c.requires.points),
+    edits_none c.args.loader.now.kept.sets.items c.args.loader.now.kept.ats.items c.requires.sets,
+  );
+  fresh = c.requires.fresh;
+}
 
 pub returns-in-Ok-clause-outcome : goal.returns-in-Ok-clause-outcome
 returns-in-Ok-clause-outcome g c = λ total book series told stands step scale.
@@ -26,7 +33,8 @@ returns-in-Ok-clause-outcome g c = λ total book series told stands step scale.
     let loader = c.args.loader.now in
     let at = shown.view old in
     let begin = start total loader.name book series at.clock (sent_now at) (spent_by at) in
-    let is = start_stands (shown.IsTold old) total book series loader at told stands c.requires.none c.requires.sets c.requires.ats c.requires.first c.requires.points
+    let is = start_stands (shown.IsTold old) total book series loader at told stands c.requires.none c.requires.sets c.requires.ats
+    c.requires.first c.requires.points
     step scale in
     let left = g.P.Streams.left (shown.pages old) in
     let before = g.P.Streams.sent (shown.pages old) in
@@ -35,7 +43,8 @@ returns-in-Ok-clause-outcome g c = λ total book series told stands step scale.
     let pieces' = g.P.Streams.pieces (shown.pages new) in
     finished_so total loader.name book series at.clock (sent_now at) (spent_by at) (shown.IsTold new) c.run_lines.new.work
     left before now pieces pieces' at (shown.view new) refl refl refl c.in-Ok.ensures.within
-    (runs_booked begin (AreAll pieces pieces') (StandsFor (shown.IsTold new) (shown.view new) c.run_lines.new.work) left before now (c.in-Ok.ensures.done (Booked begin) is))
+    (runs_booked begin (AreAll pieces pieces') (StandsFor (shown.IsTold new) (shown.view new) c.run_lines.new.work) left before now
+    (c.in-Ok.ensures.done (Booked begin) is))
     (since_booked begin left before (sent_now at) at (shown.view new) (c.run_lines.ensures.crash (Booked begin) is tt))
 
 pub returns-in-Err-clause-outcome : goal.returns-in-Err-clause-outcome
@@ -47,18 +56,22 @@ returns-in-Err-clause-outcome g c = λ total book series told stands step scale.
     let loader = c.args.loader.now in
     let at = shown.view old in
     let begin = start total loader.name book series at.clock (sent_now at) (spent_by at) in
-    let is = start_stands (shown.IsTold old) total book series loader at told stands c.requires.none c.requires.sets c.requires.ats c.requires.first c.requires.points
+    let is = start_stands (shown.IsTold old) total book series loader at told stands c.requires.none c.requires.sets c.requires.ats
+    c.requires.first c.requires.points
     step scale in
     let E : End → Type 0 = λ e. Stopped total loader.name book series (left (shown.pages old)) (left (shown.pages new)) e at
     (shown.view new) in
     subst E (sym c.stop_end.ensures)
     (stopped_so total loader.name book series at.clock (sent_now at) (spent_by at) (shown.IsTold new) c.run_lines.new.work
-    (left (shown.pages old)) (left (shown.pages new)) (sent (shown.pages old)) (sent (shown.pages new)) (g.P.Streams.pieces (shown.pages old))
+    (left (shown.pages old)) (left (shown.pages new)) (sent (shown.pages old)) (sent (shown.pages new))
+    (g.P.Streams.pieces (shown.pages old))
     (g.P.Streams.pieces (shown.pages new)) at (shown.view new)
     c.in-Err.stop refl refl refl
-    (stops_booked begin (shown.IsTold new) c.run_lines.new.work (shown.view new) (left (shown.pages old)) (left (shown.pages new)) (sent (shown.pages old)) (sent (shown.pages new))
+    (stops_booked begin (shown.IsTold new) c.run_lines.new.work (shown.view new) (left (shown.pages old)) (left (shown.pages new))
+    (sent (shown.pages old)) (sent (shown.pages new))
     (g.P.Streams.pieces (shown.pages old)) (g.P.Streams.pieces (shown.pages new)) c.in-Err.stop (c.in-Err.ensures.stops (Booked begin) is))
-    (since_booked begin (left (shown.pages old)) (sent (shown.pages old)) (sent_now at) at (shown.view new) (c.run_lines.ensures.crash (Booked begin) is tt)))
+    (since_booked begin (left (shown.pages old)) (sent (shown.pages old)) (sent_now at) at (shown.view new)
+    (c.run_lines.ensures.crash (Booked begin) is tt)))
 
 -- whatever the pages are
 pub returns-in-Err-clause-line : goal.returns-in-Err-clause-line
@@ -70,10 +83,15 @@ returns-in-Err-clause-line g c =
     let new = c.run_lines.new.from in
     let loader = c.args.loader.now in
     let begin = scan_of loader in
-    let same : unread loader.scale ≡ begin = (λ i. record { scale = loader.scale; first = sym c.requires.first i; points = sym c.requires.points i }) in
+    let same : unread loader.scale ≡ begin = (λ i. record {
+      scale = loader.scale;
+      first = sym c.requires.first i;
+      points = sym c.requires.points i;
+    }) in
     let E : End → Type 0 = λ e. IfSome (left (shown.pages old)) (λ input. EndsAtBad loader.scale input e) in
     subst E (sym c.stop_end.ensures)
-    (line_told loader.scale (shown.view new) (StandsFor (shown.IsTold new) (shown.view new) c.run_lines.new.work) (left (shown.pages old)) (left (shown.pages new))
+    (line_told loader.scale (shown.view new) (StandsFor (shown.IsTold new) (shown.view new) c.run_lines.new.work) (left (shown.pages old))
+    (left (shown.pages new))
     (sent (shown.pages old)) (sent (shown.pages new)) (pieces (shown.pages old)) (pieces (shown.pages new)) c.in-Err.stop
     (c.in-Err.ensures.stops (Scanned (unread loader.scale)) same))
 
@@ -85,7 +103,11 @@ returns-in-Ok-clause-read g c =
     let old = c.args.store.now in
     let new = c.run_lines.new.from in
     let loader = c.args.loader.now in
-    let same : unread loader.scale ≡ scan_of loader = (λ i. record { scale = loader.scale; first = sym c.requires.first i; points = sym c.requires.points i }) in
+    let same : unread loader.scale ≡ scan_of loader = (λ i. record {
+      scale = loader.scale;
+      first = sym c.requires.first i;
+      points = sym c.requires.points i;
+    }) in
     read_told loader.scale (shown.IsTold new) (shown.view new) c.run_lines.new.work (left (shown.pages old))
     (sent (shown.pages old)) (sent (shown.pages new)) (pieces (shown.pages old)) (pieces (shown.pages new))
     (c.in-Ok.ensures.done (Scanned (unread loader.scale)) same)
@@ -93,5 +115,6 @@ returns-in-Ok-clause-read g c =
 pub returns-in-Err-clause-long : goal.returns-in-Err-clause-long
 returns-in-Err-clause-long g c = λ is.
     let stop = c.in-Err.stop in
-    input_long {T = Unit {0}} (λ end s s'. EndsFor g.P.Streams end s s' × (end ≢ UnknownSeries) × (end ≢ InputTooLong)) c.args.store.now c.run_lines.new.from
+    input_long {T = Unit {0}} (λ end s s'. EndsFor g.P.Streams end s s' × (end ≢ UnknownSeries)
+    × (end ≢ InputTooLong)) c.args.store.now c.run_lines.new.from
     (Err stop) (λ never. never.2 refl) c.in-Err.ensures.long c.in-Err.ensures.cause (sym c.stop_end.ensures ∙ err_is is)

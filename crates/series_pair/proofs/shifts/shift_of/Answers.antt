@@ -13,7 +13,8 @@ returns-clause-shift g c = λ total book sound told stands.
     let first = c.info.ensures.info total book one.0 sound told stands one.1 in
     let second = c.info-2.ensures.info total book other.0 sound told stands other.1 in
     shift_so book c.args.x c.args.y one.0 other.0 c.axis_of.result c.axis_of-2.result c.shift_between.result one.1 other.1
-    (c.axis_of.ensures ∙ axis_same _ one.0 first.start first.step first.slots) (c.axis_of-2.ensures ∙ axis_same _ other.0 second.start second.step second.slots) c.shift_between.ensures.shift c.shift_between.ensures.none
+    (c.axis_of.ensures ∙ axis_same _ one.0 first.start first.step first.slots) (c.axis_of-2.ensures
+    ∙ axis_same _ other.0 second.start second.step second.slots) c.shift_between.ensures.shift c.shift_between.ensures.none
 
 pub returns-clause-records : goal.returns-clause-records
 returns-clause-records g c =
@@ -23,5 +24,6 @@ returns-clause-records g c =
     let first = c.info.ensures.stored one.0 one.1 in
     let second = c.info-2.ensures.stored other.0 other.1 in
     shift_in catalog c.args.x c.args.y one.0 other.0 c.axis_of.result c.axis_of-2.result c.shift_between.result one.1 other.1
-    (c.axis_of.ensures ∙ record_axis _ one.0 first.start first.step first.slots) (c.axis_of-2.ensures ∙ record_axis _ other.0 second.start second.step second.slots)
+    (c.axis_of.ensures ∙ record_axis _ one.0 first.start first.step first.slots) (c.axis_of-2.ensures
+    ∙ record_axis _ other.0 second.start second.step second.slots)
     c.shift_between.ensures.shift c.shift_between.ensures.none

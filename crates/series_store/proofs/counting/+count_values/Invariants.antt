@@ -7,6 +7,8 @@ abbrev pub decreases-count_values : goal.decreases-count_values
 decreases-count_values g l = l.level
 
 abbrev pub invariant-loop-child : goal.invariant-loop-child
-invariant-loop-child g l = IsCounting (g.P.Pages.told l.fn.space.pages) (g.P.Pages.told l.space.pages) (g.P.Pages.view l.fn.space.pages) (g.P.Pages.view l.space.pages) (g.P.Pages.under l.fn.space.pages) (g.P.Pages.under l.space.pages) l.fn.space.superblock l.space.superblock
+invariant-loop-child g l = IsCounting (g.P.Pages.told l.fn.space.pages) (g.P.Pages.told l.space.pages) (g.P.Pages.view l.fn.space.pages)
+    (g.P.Pages.view l.space.pages) (g.P.Pages.under l.fn.space.pages)
+    (g.P.Pages.under l.space.pages) l.fn.space.superblock l.space.superblock
     l.fn.slots l.fn.level (l.fn.level - 1) l.fn.index l.fn.page l.fn.top l.bytes (span_at l.spans) l.values l.child
     × ((g.P.Pages.view l.space.pages).faults ≡ (g.P.Pages.view l.fn.space.pages).faults)

@@ -12,7 +12,8 @@ pub loop-child-preserved : goal.loop-child-preserved
 loop-child-preserved c =
     let S : Option Span → Type 0 = λ s. IsSlot c.args.slots (128 * c.args.index + c.loop-child.child) s in
     let I : ℕ → Type 0 = λ i. IsSlot c.args.slots i c.leaf.result in
-    below_next (λ n. IsSlot c.args.slots (128 * c.args.index + n) (span_at c.args.spans.now (127 + n))) c.loop-child.child c.loop-child.invariant
+    below_next (λ n. IsSlot c.args.slots (128 * c.args.index + n) (span_at c.args.spans.now (127 + n))) c.loop-child.child
+    c.loop-child.invariant
     (subst S c.leaf.ensures.span (subst I c.part_of.ensures (c.is_slot.ensures.0 c.if-not-is_slot.false)))
 
 pub returns-clause-parts : goal.returns-clause-parts

@@ -26,17 +26,25 @@ returns-clause-carried g c =
     let one : StoredSeries = c.args.series in
     let numbers = c.put_record.ensures.superblock ∙ c.set_series.ensures.superblock in
     record {
-      reads = reads_more 1 96 (told old.pages) (told new.pages) (view old.pages) (view new.pages) (omega arith) (one_read (told old.pages) (told new.pages) (view old.pages) (view new.pages) c.put_record.ensures.reads);
+      reads = reads_more 1 96 (told old.pages) (told new.pages) (view old.pages) (view new.pages) (omega arith)
+          (one_read (told old.pages) (told new.pages) (view old.pages) (view new.pages) c.put_record.ensures.reads);
       over = record { superblock = c.put_record.ensures.space; goes_on = c.put_record.ensures.goes_on };
       total = ap (λ (s : Superblock). s.total) numbers;
       cause = tt;
       kept = tt;
       back = record { last = one; now_are = c.in_ok-add.ensures.ok };
       nothing = λ none. absurd (last_changes none);
-      stands = λ answer. catalog_as (told old.pages) (told new.pages) (left_by c.put_record.new.txn base) (left_by c.put_record.new.txn (view new.pages).image) (with_series txn.superblock (c.len-count.result + 1)) c.put_record.new.txn.superblock
-          (items ++ one ∷ []) c.add.new.self.series.items c.put_record.ensures.reads.was_told (λ now. ap (λ (i : Image). left_by c.put_record.new.txn i) (c.put_record.ensures.reads.image (c.put_record.ensures.reads.was_told now))) numbers c.in_ok-add.ensures.ok
-          (pushed_catalog (told old.pages) (left_by txn base) (left_by c.put_record.new.txn base) txn.superblock c.len-count.result items one c.len-count.ensures.count c.requires.entry
-          (λ t. record_added txn c.set_series.new.txn c.put_record.new.txn base c.len-count.result one _ c.set_series.ensures.superblock c.set_series.ensures.pages c.requires.empty c.requires.entry (c.in_ok-put_record.ensures.set t) (c.in_ok-put_record.ensures.added t)) c.requires.staged.catalog);
+      stands = λ answer. catalog_as (told old.pages) (told new.pages) (left_by c.put_record.new.txn base)
+          (left_by c.put_record.new.txn (view new.pages).image)
+          (with_series txn.superblock (c.len-count.result + 1)) c.put_record.new.txn.superblock
+          (items ++ one ∷ []) c.add.new.self.series.items c.put_record.ensures.reads.was_told
+          (λ now. ap (λ (i : Image). left_by c.put_record.new.txn i)
+          (c.put_record.ensures.reads.image (c.put_record.ensures.reads.was_told now))) numbers c.in_ok-add.ensures.ok
+          (pushed_catalog (told old.pages) (left_by txn base)
+          (left_by c.put_record.new.txn base) txn.superblock c.len-count.result items one c.len-count.ensures.count c.requires.entry
+          (λ t. record_added txn c.set_series.new.txn c.put_record.new.txn base c.len-count.result one _ c.set_series.ensures.superblock
+          c.set_series.ensures.pages c.requires.empty c.requires.entry (c.in_ok-put_record.ensures.set t)
+          (c.in_ok-put_record.ensures.added t)) c.requires.staged.catalog);
       few = omega (arith, c.put_record.ensures.len, c.set_series.ensures.pages.len);
       slots = omega arith;
     }
@@ -57,9 +65,14 @@ returns-clause-answered g c = λ total book is stands book_is.
         accepted = refl;
         slots = refl;
         stands = subst B (sym (c.put_record.ensures.reads.image is))
-            (added_stands txn.superblock.total txn.superblock (left_by txn base) (left_by after base) c.len-count.result (entry_of one) total book are.small txn.rules (first_page txn base)
-            (c.len-count.ensures.count ∙ are.count) (omega (arith, c.len-count.ensures.count, c.requires.room)) (ap (λ (t : Tree). t.slots) c.requires.empty) (ap (λ (t : Tree). t.root) c.requires.empty) (ap (λ (t : Tree). t.span) c.requires.empty)
-            (record_added txn c.set_series.new.txn after base c.len-count.result one _ c.set_series.ensures.superblock c.set_series.ensures.pages c.requires.empty c.requires.entry (c.in_ok-put_record.ensures.set is) (c.in_ok-put_record.ensures.added is))
+            (added_stands txn.superblock.total txn.superblock (left_by txn base) (left_by after base) c.len-count.result
+            (entry_of one) total book are.small txn.rules (first_page txn base)
+            (c.len-count.ensures.count ∙ are.count) (omega (arith, c.len-count.ensures.count, c.requires.room))
+            (ap (λ (t : Tree). t.slots) c.requires.empty) (ap (λ (t : Tree). t.root) c.requires.empty)
+            (ap (λ (t : Tree). t.span) c.requires.empty)
+            (record_added txn c.set_series.new.txn after base c.len-count.result one _ c.set_series.ensures.superblock
+            c.set_series.ensures.pages c.requires.empty c.requires.entry (c.in_ok-put_record.ensures.set is)
+            (c.in_ok-put_record.ensures.added is))
             stands book_is);
       };
       refused = tt;

@@ -12,12 +12,16 @@ use Rattle.series_store.proofs.groups.stage_next.Goals as goal
 pub returns-in_err-reserve-clause-next : goal.returns-in_err-reserve-clause-next
 returns-in_err-reserve-clause-next g c =
     let space = c.args.space.now in
-    next_starved (g.P.Pages.told space.pages) (g.P.Pages.view space.pages) (g.P.Pages.under space.pages) space.superblock c.args.txn.now c.args.catalog.now.series.items c.args.answers.now.items c.reserve.new.self.items c.from_residual.result c.from_residual.ensures.1 c.in_err-reserve.ensures.items
+    next_starved (g.P.Pages.told space.pages) (g.P.Pages.view space.pages)
+    (g.P.Pages.under space.pages) space.superblock c.args.txn.now c.args.catalog.now.series.items c.args.answers.now.items
+    c.reserve.new.self.items c.from_residual.result c.from_residual.ensures.1 c.in_err-reserve.ensures.items
 
 pub returns-in_err-reserve-clause-answered : goal.returns-in_err-reserve-clause-answered
 returns-in_err-reserve-clause-answered g c = λ total book told stands.
     let base = (g.P.Pages.view c.args.space.now.pages).image in
-    next_by_error total book c.args.edit.now c.from_residual.result c.args.txn.now c.args.txn.now (left_by c.args.txn.now base) c.args.answers.now.items c.reserve.new.self.items NoMemory c.from_residual.ensures.1 (λ is. absurd is) tt
+    next_by_error total book c.args.edit.now c.from_residual.result c.args.txn.now c.args.txn.now
+    (left_by c.args.txn.now base) c.args.answers.now.items c.reserve.new.self.items NoMemory c.from_residual.ensures.1
+    (λ is. absurd is) tt
 
 pub returns-in-Ok-clause-answered : goal.returns-in-Ok-clause-answered
 returns-in-Ok-clause-answered g c = λ total book told stands.
@@ -25,8 +29,12 @@ returns-in-Ok-clause-answered g c = λ total book told stands.
     let new = (g.P.Pages.view c.stage.new.space.pages).image in
     let answer : Result Outcome Refusal = Ok staged.outcome in
     let P : List (Result Outcome Refusal) → Type 0 = λ old. c.push-added.new.self.items ≡ old ++ answer ∷ [] in
-    let are : P c.args.answers.now.items = subst P c.in_ok-reserve.ensures.items (pushed c.push-added.result c.reserve.new.self.items c.push-added.new.self.items answer c.push-added.ensures.items (c.push-added.ensures.succeeds (omega (arith, c.in_ok-reserve.ensures.ok)))) in
-    next_by_ok total book c.args.edit.now staged c.args.txn.now c.stage.new.txn (left_by c.stage.new.txn new) c.args.answers.now.items c.push-added.new.self.items are (c.in-Ok.ensures.answered total book told stands)
+    let are : P c.args.answers.now.items = subst P c.in_ok-reserve.ensures.items
+    (pushed c.push-added.result c.reserve.new.self.items c.push-added.new.self.items answer c.push-added.ensures.items
+    (c.push-added.ensures.succeeds (omega (arith, c.in_ok-reserve.ensures.ok)))) in
+    next_by_ok total book c.args.edit.now staged c.args.txn.now c.stage.new.txn
+    (left_by c.stage.new.txn new) c.args.answers.now.items c.push-added.new.self.items are
+    (c.in-Ok.ensures.answered total book told stands)
     (c.in-Ok.ensures.none_cleared total book told stands) (c.in-Ok.ensures.kept total book told stands) c.in-Ok.ensures.carried.nothing
 
 pub returns-in_err-refusal-in-Err-clause-next : goal.returns-in_err-refusal-in-Err-clause-next
@@ -38,15 +46,19 @@ returns-in_err-refusal-in-Err-clause-next g c =
     let new = c.stage.new.space in
     let other = c.in_err-refusal-in-Err.ensures.other in
     let E : StoreError → Type 0 = λ e. IsErrAnd c.from_residual-in_err-refusal-in-Err.result (λ x. x ≡ e) in
-    next_error (told old.pages) (told new.pages) (view old.pages) (view new.pages) (under old.pages) (under new.pages) old.superblock new.superblock c.args.txn.now c.stage.new.txn c.args.catalog.now.series.items c.stage.new.catalog.series.items
-    c.args.answers.now.items c.reserve.new.self.items c.from_residual-in_err-refusal-in-Err.result c.in-Err.cause (subst E other.0 c.from_residual-in_err-refusal-in-Err.ensures.1) other.1 c.in-Err.ensures.carried c.in_ok-reserve.ensures.items
+    next_error (told old.pages) (told new.pages) (view old.pages) (view new.pages) (under old.pages)
+    (under new.pages) old.superblock new.superblock c.args.txn.now c.stage.new.txn c.args.catalog.now.series.items
+    c.stage.new.catalog.series.items
+    c.args.answers.now.items c.reserve.new.self.items c.from_residual-in_err-refusal-in-Err.result c.in-Err.cause
+    (subst E other.0 c.from_residual-in_err-refusal-in-Err.ensures.1) other.1 c.in-Err.ensures.carried c.in_ok-reserve.ensures.items
 
 pub returns-in_err-refusal-in-Err-clause-answered : goal.returns-in_err-refusal-in-Err-clause-answered
 returns-in_err-refusal-in-Err-clause-answered g c = λ total book told stands.
     let new = (g.P.Pages.view c.stage.new.space.pages).image in
     let other = c.in_err-refusal-in-Err.ensures.other in
     let E : StoreError → Type 0 = λ e. IsErrAnd c.from_residual-in_err-refusal-in-Err.result (λ x. x ≡ e) in
-    next_by_error total book c.args.edit.now c.from_residual-in_err-refusal-in-Err.result c.args.txn.now c.stage.new.txn (left_by c.stage.new.txn new) c.args.answers.now.items c.reserve.new.self.items c.in-Err.cause
+    next_by_error total book c.args.edit.now c.from_residual-in_err-refusal-in-Err.result c.args.txn.now c.stage.new.txn
+    (left_by c.stage.new.txn new) c.args.answers.now.items c.reserve.new.self.items c.in-Err.cause
     (subst E other.0 c.from_residual-in_err-refusal-in-Err.ensures.1) other.1 (c.in-Err.ensures.answered total book told stands).refused
 
 pub returns-in_ok-refusal-in-Err-clause-answered : goal.returns-in_ok-refusal-in-Err-clause-answered
@@ -56,9 +68,12 @@ returns-in_ok-refusal-in-Err-clause-answered g c = λ total book told stands.
     let answer : Result Outcome Refusal = Err c.in_ok-refusal-in-Err.refusal in
     let P : List (Result Outcome Refusal) → Type 0 = λ old. c.push-added-in-Err.new.self.items ≡ old ++ answer ∷ [] in
     let are : P c.args.answers.now.items = subst P c.in_ok-reserve.ensures.items
-    (pushed c.push-added-in-Err.result c.reserve.new.self.items c.push-added-in-Err.new.self.items answer c.push-added-in-Err.ensures.items (c.push-added-in-Err.ensures.succeeds (omega (arith, c.in_ok-reserve.ensures.ok)))) in
-    next_by_refused (g.P.Pages.told old) total book c.args.edit.now c.in-Err.cause c.in_ok-refusal-in-Err.refusal c.args.txn.now c.stage.new.txn (g.P.Pages.view old) (g.P.Pages.view new) c.args.answers.now.items c.push-added-in-Err.new.self.items
-    c.in_ok-refusal-in-Err.ensures.refused are (c.in-Err.ensures.answered total book told stands) told c.stage.ensures.carried.reads.image stands
+    (pushed c.push-added-in-Err.result c.reserve.new.self.items c.push-added-in-Err.new.self.items answer c.push-added-in-Err.ensures.items
+    (c.push-added-in-Err.ensures.succeeds (omega (arith, c.in_ok-reserve.ensures.ok)))) in
+    next_by_refused (g.P.Pages.told old) total book c.args.edit.now c.in-Err.cause c.in_ok-refusal-in-Err.refusal c.args.txn.now
+    c.stage.new.txn (g.P.Pages.view old) (g.P.Pages.view new) c.args.answers.now.items c.push-added-in-Err.new.self.items
+    c.in_ok-refusal-in-Err.ensures.refused are (c.in-Err.ensures.answered total book told stands) told c.stage.ensures.carried.reads.image
+    stands
 
 pub returns-in_err-refusal-in-Err-clause-quiet_err : goal.returns-in_err-refusal-in-Err-clause-quiet_err
 returns-in_err-refusal-in-Err-clause-quiet_err g c =

@@ -19,12 +19,20 @@ returns-in-Some-axis_of-clause-room c = λ pages few.
     let values = c.in-Set.values in
     let slot = slot_at_time one c.in-Set.time in
     let at : c.place_of.result ≡ slot =
-    c.place_of.ensures some.0 some.1 ∙ ap (λ (t : ℤ). place_of some.0 t) same ∙ slot_as c.in-Some-axis_of.axis one some.0 some.1 c.in-Set.time found.start found.step in
-    let R : StoredSeries → Type 0 = λ one. length values ≤ MOST_VALUES → slot_at_time one c.in-Set.time + length values ≤ MOST_SLOTS → HasRoomIn pages one.tree (slot_at_time one c.in-Set.time) (slot_at_time one c.in-Set.time + length values) in
+    c.place_of.ensures some.0 some.1 ∙ ap (λ (t : ℤ). place_of some.0 t) same
+    ∙ slot_as c.in-Some-axis_of.axis one some.0 some.1 c.in-Set.time found.start found.step in
+    let R : StoredSeries → Type 0 = λ one. length values ≤ MOST_VALUES → slot_at_time one c.in-Set.time + length values ≤ MOST_SLOTS
+    → HasRoomIn pages one.tree (slot_at_time one c.in-Set.time) (slot_at_time one c.in-Set.time + length values) in
     let E : Edit → Type 0 = λ edit. HasRoomFor pages (series_in c.args.catalog.now) edit in
     subst E (sym c.in-Set.is)
     (named_so (series_in c.args.catalog.now) c.in-Set.name found.id one R found.named found.there
-    (λ short within. omega (arith, few, c.run_puts-in-Some-axis_of.ensures.puts one.tree (sym found.slots) short (omega (arith, within, at)), ap (λ n. puts_in one.tree n (n + length values)) at)))
+    (λ short within. omega (
+      arith,
+      few,
+      c.run_puts-in-Some-axis_of.ensures.puts one.tree (sym found.slots) short
+          (omega (arith, within, at)),
+      ap (λ n. puts_in one.tree n (n + length values)) at,
+    )))
 
 pub returns-in-Some-axis_of-2-clause-room : goal.returns-in-Some-axis_of-2-clause-room
 returns-in-Some-axis_of-2-clause-room c = λ pages few.
@@ -36,8 +44,10 @@ returns-in-Some-axis_of-2-clause-room c = λ pages few.
     let slot = slot_at_time one c.in-Clear.time in
     let slots = c.in-Some-axis_of-2.axis.slots in
     let at : c.place_of-in-Some-axis_of-2.result ≡ slot =
-    c.place_of-in-Some-axis_of-2.ensures some.0 some.1 ∙ ap (λ (t : ℤ). place_of some.0 t) same ∙ slot_as c.in-Some-axis_of-2.axis one some.0 some.1 c.in-Clear.time found.start found.step in
-    let R : StoredSeries → Type 0 = λ one. 0 < count → count ≤ MOST_CLEARED → slot_at_time one c.in-Clear.time < one.tree.slots → HasRoomIn pages one.tree (slot_at_time one c.in-Clear.time) (min (slot_at_time one c.in-Clear.time + count) one.tree.slots) in
+    c.place_of-in-Some-axis_of-2.ensures some.0 some.1 ∙ ap (λ (t : ℤ). place_of some.0 t) same
+    ∙ slot_as c.in-Some-axis_of-2.axis one some.0 some.1 c.in-Clear.time found.start found.step in
+    let R : StoredSeries → Type 0 = λ one. 0 < count → count ≤ MOST_CLEARED → slot_at_time one c.in-Clear.time < one.tree.slots
+    → HasRoomIn pages one.tree (slot_at_time one c.in-Clear.time) (min (slot_at_time one c.in-Clear.time + count) one.tree.slots) in
     let E : Edit → Type 0 = λ edit. HasRoomFor pages (series_in c.args.catalog.now) edit in
     subst E (sym c.in-Clear.is)
     (named_so (series_in c.args.catalog.now) c.in-Clear.name found.id one R found.named found.there

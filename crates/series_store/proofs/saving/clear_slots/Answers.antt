@@ -1,4 +1,5 @@
-use Rattle.std.proofs.Common.{◌≡◌, ℕ, ℤ, ◌+◌, ◌≤◌, List, length, slice_get, Option, Result, Ok, OnOk, true, false, refl, sym, ap, subst, ◌∙◌, arith}
+use Rattle.std.proofs.Common.{◌≡◌, ℕ, ℤ, ◌+◌, ◌≤◌, List, length, slice_get, Option, Result, Ok, OnOk, true, false, refl, sym, ap, subst}
+use Rattle.std.proofs.Common.{◌∙◌, arith}
 use Rattle.block_disk.specs.View.{Image}
 use Rattle.page_space.specs.Transactions.{held, left_by}
 use Rattle.path_repair.proofs.CallLemmas.{clear_puts}
@@ -28,7 +29,12 @@ use Rattle.series_store.proofs.saving.clear_slots.Goals as goal
 pub clear_run-requires-clause-root : goal.clear_run-requires-clause-root
 clear_run-requires-clause-root g c =
     let txn = c.args.txn.now in
-    omega (arith, c.requires.staged.total_is, root_below txn.superblock.fresh txn.superblock.total (entry_of c.series.result.now) (c.requires.staged.catalog.fits c.args.id c.series.result.now c.series.ensures) txn.rules.fresh_high txn.rules.total_low)
+    omega (
+      arith,
+      c.requires.staged.total_is,
+      root_below txn.superblock.fresh txn.superblock.total (entry_of c.series.result.now)
+          (c.requires.staged.catalog.fits c.args.id c.series.result.now c.series.ensures) txn.rules.fresh_high txn.rules.total_low,
+    )
 
 pub clear_run-requires-clause-proper : goal.clear_run-requires-clause-proper
 clear_run-requires-clause-proper g c = (c.requires.staged.catalog.fits c.args.id c.series.result.now c.series.ensures).span
@@ -40,7 +46,12 @@ pub clear_run-requires-clause-within : goal.clear_run-requires-clause-within
 clear_run-requires-clause-within g c =
     let W : StoredSeries → Type 0 = λ one. c.args.slot + c.args.count ≤ one.tree.slots in
     let few = (c.requires.staged.catalog.fits c.args.id c.series.result.now c.series.ensures).slots in
-    omega (arith, few, known_some (slice_get c.args.catalog.now.series.items c.args.id) c.series.result.now W c.series.ensures c.requires.within)
+    omega (
+      arith,
+      few,
+      known_some (slice_get c.args.catalog.now.series.items c.args.id) c.series.result.now W c.series.ensures
+          c.requires.within,
+    )
 
 pub clear_run-requires-clause-room : goal.clear_run-requires-clause-room
 clear_run-requires-clause-room g c =
@@ -49,7 +60,12 @@ clear_run-requires-clause-room g c =
     let end = c.args.slot + c.args.count in
     let R : StoredSeries → Type 0 = λ one. HasRoomIn (length (held c.args.txn.now)) one.tree c.args.slot end in
     let W : StoredSeries → Type 0 = λ one. end ≤ one.tree.slots in
-    omega (arith, known_some (slice_get items c.args.id) one R c.series.ensures c.requires.room, clear_touch c.args.slot end one.tree.slots one.tree.slots refl (known_some (slice_get items c.args.id) one W c.series.ensures c.requires.within))
+    omega (
+      arith,
+      known_some (slice_get items c.args.id) one R c.series.ensures c.requires.room,
+      clear_touch c.args.slot end one.tree.slots one.tree.slots refl
+          (known_some (slice_get items c.args.id) one W c.series.ensures c.requires.within),
+    )
 
 pub save-requires-clause-staged : goal.save-requires-clause-staged
 save-requires-clause-staged g c =
@@ -63,7 +79,8 @@ save-requires-clause-staged g c =
     let one : StoredSeries = c.series.result.now in
     let tree = one.tree in
     let items : List StoredSeries = c.args.catalog.now.series.items in
-    later_staged (told old.pages) (told mid.pages) (view old.pages) (view mid.pages) (under old.pages) (under mid.pages) old.superblock mid.superblock txn changed items c.clear_run.ensures.moved
+    later_staged (told old.pages) (told mid.pages) (view old.pages) (view mid.pages) (under old.pages)
+    (under mid.pages) old.superblock mid.superblock txn changed items c.clear_run.ensures.moved
     (λ t. c.clear_run.ensures.catalog (view old.pages).image (record { are_told = t; are = refl })) c.requires.staged
 
 pub save-requires-clause-room : goal.save-requires-clause-room
@@ -77,7 +94,8 @@ save-requires-clause-room g c =
       arith,
       c.clear_run.ensures.moved.held,
       known_some (slice_get items c.args.id) one R c.series.ensures c.requires.room,
-      clear_touch c.args.slot end one.tree.slots one.tree.slots refl (known_some (slice_get items c.args.id) one W c.series.ensures c.requires.within),
+      clear_touch c.args.slot end one.tree.slots one.tree.slots refl
+          (known_some (slice_get items c.args.id) one W c.series.ensures c.requires.within),
     )
 
 pub returns-in_err-tree-clause-carried : goal.returns-in_err-tree-clause-carried
@@ -95,10 +113,15 @@ returns-in_err-tree-clause-carried g c =
     let fewer = (c.requires.staged.catalog.fits c.args.id one c.series.ensures).slots in
     let five = levels_few tree.slots in
     let puts = clear_puts c.args.slot c.args.count tree.slots c.requires.short in
-    staging_error (told old.pages) (told mid.pages) (view old.pages) (view mid.pages) (under old.pages) (under mid.pages) old.superblock mid.superblock txn changed items c.from_residual.result c.in_err-tree.field-0.0
-    (omega (arith, puts, five)) (omega (arith, puts, five)) c.from_residual.ensures.1 c.clear_run.ensures.moved (λ t. c.clear_run.ensures.catalog (view old.pages).image (record { are_told = t; are = refl })) c.requires.staged c.in_err-tree.ensures.cause
-    (names_below (told old.pages) (view old.pages).image txn c.args.id one c.in_err-tree.field-0.0 (omega (arith, c.requires.there, c.requires.staged.catalog.count)) c.requires.staged.catalog.small
-    (λ t. c.requires.staged.catalog.are_told t c.args.id one c.series.ensures) (λ t. c.in_err-tree.ensures.stored (view old.pages).image (record { are_told = t; are = refl })))
+    staging_error (told old.pages) (told mid.pages) (view old.pages) (view mid.pages) (under old.pages)
+    (under mid.pages) old.superblock mid.superblock txn changed items c.from_residual.result c.in_err-tree.field-0.0
+    (omega (arith, puts, five)) (omega (arith, puts, five)) c.from_residual.ensures.1 c.clear_run.ensures.moved
+    (λ t. c.clear_run.ensures.catalog (view old.pages).image (record { are_told = t; are = refl })) c.requires.staged
+    c.in_err-tree.ensures.cause
+    (names_below (told old.pages) (view old.pages).image txn c.args.id one c.in_err-tree.field-0.0
+    (omega (arith, c.requires.there, c.requires.staged.catalog.count)) c.requires.staged.catalog.small
+    (λ t. c.requires.staged.catalog.are_told t c.args.id one c.series.ensures)
+    (λ t. c.in_err-tree.ensures.stored (view old.pages).image (record { are_told = t; are = refl })))
 
 pub returns-clause-carried : goal.returns-clause-carried
 returns-clause-carried g c =
@@ -116,9 +139,12 @@ returns-clause-carried g c =
     let five = levels_few tree.slots in
     let puts = clear_puts c.args.slot c.args.count tree.slots c.requires.short in
     let new = c.save.new.space in
-    staging_saved (told old.pages) (told mid.pages) (told new.pages) (view old.pages) (view mid.pages) (view new.pages) (under old.pages) (under mid.pages) (under new.pages) old.superblock mid.superblock new.superblock txn changed c.save.new.txn
-    items c.save.new.catalog.series.items c.in_ok-tree.tree.slots c.save.result (omega (arith, puts, five)) (omega (arith, puts, five)) (omega (arith, c.in_ok-tree.ensures.tree.slots_are, fewer))
-    c.clear_run.ensures.moved c.in_ok-tree.ensures.quiet c.save.ensures.reads c.save.ensures.goes_on c.save.ensures.space c.save.ensures.superblock c.save.ensures.len c.save.ensures.error c.save.ensures.cause c.save.ensures.kept c.save.ensures.back
+    staging_saved (told old.pages) (told mid.pages) (told new.pages) (view old.pages) (view mid.pages) (view new.pages) (under old.pages)
+    (under mid.pages) (under new.pages) old.superblock mid.superblock new.superblock txn changed c.save.new.txn
+    items c.save.new.catalog.series.items c.in_ok-tree.tree.slots c.save.result (omega (arith, puts, five)) (omega (arith, puts, five))
+    (omega (arith, c.in_ok-tree.ensures.tree.slots_are, fewer))
+    c.clear_run.ensures.moved c.in_ok-tree.ensures.quiet c.save.ensures.reads c.save.ensures.goes_on c.save.ensures.space
+    c.save.ensures.superblock c.save.ensures.len c.save.ensures.error c.save.ensures.cause c.save.ensures.kept c.save.ensures.back
     c.save.ensures.staged c.save.ensures.slots
 
 pub returns-in_err-tree-clause-answered : goal.returns-in_err-tree-clause-answered
@@ -135,7 +161,8 @@ returns-in_err-tree-clause-answered g c = λ total book series told' stands foun
     let items : List StoredSeries = c.args.catalog.now.series.items in
     let fewer = (c.requires.staged.catalog.fits c.args.id one c.series.ensures).slots in
     let before : Image = left_by txn (view old.pages).image in
-    let store : IsStore before txn.superblock book × (txn.superblock.total ≡ total) = staged_store txn (view old.pages).image total book c.requires.staged.catalog.small stands in
+    let store : IsStore before txn.superblock book × (txn.superblock.total ≡ total) = staged_store txn
+    (view old.pages).image total book c.requires.staged.catalog.small stands in
     let says : entry before c.args.id ≡ entry_of one = c.requires.staged.catalog.are_told told' c.args.id one c.series.ensures in
     let W : StoredSeries → Type 0 = λ one. c.args.slot + c.args.count ≤ one.tree.slots in
     let room : W one = known_some (slice_get items c.args.id) one W c.series.ensures c.requires.within in
@@ -143,10 +170,13 @@ returns-in_err-tree-clause-answered g c = λ total book series told' stands foun
     let edited = clear_edited before txn.superblock book c.args.id series one c.args.slot c.args.count store.0 found says room in
     let held_tree = own_tree before txn.superblock book c.args.id series one store.0 found says in
     let answer : Result Edited Refusal = Ok (with_cleared book c.args.id series c.args.slot c.args.count) in
-    let error = c.in_err-tree.ensures.errors (view old.pages).image txn.superblock.total series.slots slots (pages_of_others before (length book) c.args.id) (record { are_told = told'; are = refl }) held_tree edited in
+    let error = c.in_err-tree.ensures.errors (view old.pages).image txn.superblock.total series.slots slots
+    (pages_of_others before (length book) c.args.id) (record { are_told = told'; are = refl }) held_tree edited in
     let R : RepairError → Type 0 = λ e. IsRefusedBy answer (error_of e) in
     let S : RepairError → Type 0 = λ e. IsRefusal (error_of e) → changed ≡ txn in
-    staged_error answer (touched_slots series c.args.slot (c.args.slot + c.args.count)) total c.from_residual.result (error_of c.in_err-tree.field-0.0) txn changed (left_by changed (view mid.pages).image) c.from_residual.ensures.1 (subst R (sym error) tt) (subst S (sym error) (λ is. absurd is))
+    staged_error answer (touched_slots series c.args.slot (c.args.slot + c.args.count)) total c.from_residual.result
+    (error_of c.in_err-tree.field-0.0) txn changed (left_by changed (view mid.pages).image) c.from_residual.ensures.1
+    (subst R (sym error) tt) (subst S (sym error) (λ is. absurd is))
 
 pub returns-clause-answered : goal.returns-clause-answered
 returns-clause-answered g c = λ total book series told' stands found.
@@ -161,7 +191,8 @@ returns-clause-answered g c = λ total book series told' stands found.
     let tree = one.tree in
     let items : List StoredSeries = c.args.catalog.now.series.items in
     let before : Image = left_by txn (view old.pages).image in
-    let store : IsStore before txn.superblock book × (txn.superblock.total ≡ total) = staged_store txn (view old.pages).image total book c.requires.staged.catalog.small stands in
+    let store : IsStore before txn.superblock book × (txn.superblock.total ≡ total) = staged_store txn
+    (view old.pages).image total book c.requires.staged.catalog.small stands in
     let says : entry before c.args.id ≡ entry_of one = c.requires.staged.catalog.are_told told' c.args.id one c.series.ensures in
     let W : StoredSeries → Type 0 = λ one. c.args.slot + c.args.count ≤ one.tree.slots in
     let room : W one = known_some (slice_get items c.args.id) one W c.series.ensures c.requires.within in
@@ -171,25 +202,45 @@ returns-clause-answered g c = λ total book series told' stands found.
     let answer : Result Edited Refusal = Ok (with_cleared book c.args.id series c.args.slot c.args.count) in
     let new = c.save.new.space in
     let after : Image = left_by changed (view old.pages).image in
-    let now : left_by changed (view mid.pages).image ≡ after = ap (λ (i : Image). left_by changed i) (c.clear_run.ensures.moved.reads.image told') in
-    let T : ℕ → Type 0 = λ n. IsEditedTree n before after changed.superblock c.in_ok-tree.tree slots (pages_of_others before (length book) c.args.id) in
+    let now : left_by changed (view mid.pages).image ≡ after = ap (λ (i : Image). left_by changed i)
+    (c.clear_run.ensures.moved.reads.image told') in
+    let T : ℕ → Type 0 = λ n. IsEditedTree n before after changed.superblock c.in_ok-tree.tree slots
+    (pages_of_others before (length book) c.args.id) in
     let C : Image → Type 0 = λ i. IsTreeChanged before i (length book) c.args.id changed.superblock c.in_ok-tree.tree slots in
-    let part : IsPartChanged (left_by changed (view mid.pages).image) changed.superblock one c.args.id c.in_ok-tree.tree book series slots = record {
+    let part : IsPartChanged (left_by changed (view mid.pages).image) changed.superblock one c.args.id c.in_ok-tree.tree book series
+    slots = record {
       before = before;
       numbers = txn.superblock;
       store = store.0;
       there = found;
       says = says;
-      later = record { total = c.clear_run.ensures.moved.total; series = c.clear_run.ensures.moved.series; fresh = c.clear_run.ensures.moved.fresh };
+      later = record {
+        total = c.clear_run.ensures.moved.total;
+        series = c.clear_run.ensures.moved.series;
+        fresh = c.clear_run.ensures.moved.fresh;
+      };
       changed = subst C (sym now) (record {
-        edited = subst T (sym c.clear_run.ensures.moved.total) (c.in_ok-tree.ensures.edited (view old.pages).image txn.superblock.total series.slots slots (pages_of_others before (length book) c.args.id) (record { are_told = told'; are = refl }) held_tree edited);
+        edited = subst T (sym c.clear_run.ensures.moved.total)
+            (c.in_ok-tree.ensures.edited (view old.pages).image txn.superblock.total series.slots slots
+            (pages_of_others before (length book) c.args.id) (record { are_told = told'; are = refl }) held_tree edited);
         catalog = c.clear_run.ensures.catalog (view old.pages).image (record { are_told = told'; are = refl });
       });
     } in
-    let B : ℕ → Type 0 = λ n. OnOk c.save.result (StandsForBook (left_by c.save.new.txn (view new.pages).image) n (with_slots book c.args.id series slots)) in
-    staged_saved answer (with_cleared book c.args.id series c.args.slot c.args.count) (touched_slots series c.args.slot (c.args.slot + c.args.count)) total c.in_ok-tree.tree.slots c.save.result txn c.save.new.txn (left_by c.save.new.txn (view new.pages).image) (λ now. refl) (part.changed.edited.holds.is_tree.slots ∙ edited.length_is ∙ held_tree.is_tree.slots)
-    c.save.ensures.error (subst B (c.clear_run.ensures.moved.total ∙ store.1) (c.save.ensures.stands (c.clear_run.ensures.moved.reads.told told') one book series slots c.series.ensures part)) c.save.ensures.slots
-    (omega (arith, c.save.ensures.len, c.clear_run.ensures.moved.held, clear_touch c.args.slot (c.args.slot + c.args.count) tree.slots (length series.slots) held_tree.is_tree.slots room))
+    let B : ℕ → Type 0 = λ n. OnOk c.save.result (StandsForBook (left_by c.save.new.txn (view new.pages).image) n
+    (with_slots book c.args.id series slots)) in
+    staged_saved answer (with_cleared book c.args.id series c.args.slot c.args.count)
+    (touched_slots series c.args.slot (c.args.slot + c.args.count)) total c.in_ok-tree.tree.slots c.save.result txn c.save.new.txn
+    (left_by c.save.new.txn (view new.pages).image) (λ now. refl) (part.changed.edited.holds.is_tree.slots ∙ edited.length_is
+    ∙ held_tree.is_tree.slots)
+    c.save.ensures.error (subst B (c.clear_run.ensures.moved.total
+    ∙ store.1) (c.save.ensures.stands (c.clear_run.ensures.moved.reads.told told') one book series slots c.series.ensures part))
+    c.save.ensures.slots
+    (omega (
+      arith,
+      c.save.ensures.len,
+      c.clear_run.ensures.moved.held,
+      clear_touch c.args.slot (c.args.slot + c.args.count) tree.slots (length series.slots) held_tree.is_tree.slots room,
+    ))
 
 pub returns-then-is_kept-clause-carried : goal.returns-then-is_kept-clause-carried
 returns-then-is_kept-clause-carried g c =
@@ -208,8 +259,11 @@ returns-then-is_kept-clause-carried g c =
     let puts = clear_puts c.args.slot c.args.count tree.slots c.requires.short in
     let kept = c.is_kept.ensures.0 c.if-is_kept.true in
     let same : changed ≡ txn = c.in_ok-tree.ensures.kept kept.0 in
-    staging_kept (told old.pages) (told mid.pages) (view old.pages) (view mid.pages) (under old.pages) (under mid.pages) old.superblock mid.superblock txn changed items c.nothing.result (omega (arith, puts, five)) (omega (arith, puts, five))
-    c.clear_run.ensures.moved (λ t. c.clear_run.ensures.catalog (view old.pages).image (record { are_told = t; are = refl })) c.requires.staged same c.nothing.ensures.undo (omega (arith, fewer, c.nothing.ensures.slots))
+    staging_kept (told old.pages) (told mid.pages) (view old.pages) (view mid.pages) (under old.pages)
+    (under mid.pages) old.superblock mid.superblock txn changed items c.nothing.result (omega (arith, puts, five))
+    (omega (arith, puts, five))
+    c.clear_run.ensures.moved (λ t. c.clear_run.ensures.catalog (view old.pages).image (record { are_told = t; are = refl }))
+    c.requires.staged same c.nothing.ensures.undo (omega (arith, fewer, c.nothing.ensures.slots))
 
 pub returns-then-is_kept-clause-answered : goal.returns-then-is_kept-clause-answered
 returns-then-is_kept-clause-answered g c = λ total book series told' stands found.
@@ -224,7 +278,8 @@ returns-then-is_kept-clause-answered g c = λ total book series told' stands fou
     let tree = one.tree in
     let items : List StoredSeries = c.args.catalog.now.series.items in
     let before : Image = left_by txn (view old.pages).image in
-    let store : IsStore before txn.superblock book × (txn.superblock.total ≡ total) = staged_store txn (view old.pages).image total book c.requires.staged.catalog.small stands in
+    let store : IsStore before txn.superblock book × (txn.superblock.total ≡ total) = staged_store txn
+    (view old.pages).image total book c.requires.staged.catalog.small stands in
     let says : entry before c.args.id ≡ entry_of one = c.requires.staged.catalog.are_told told' c.args.id one c.series.ensures in
     let W : StoredSeries → Type 0 = λ one. c.args.slot + c.args.count ≤ one.tree.slots in
     let room : W one = known_some (slice_get items c.args.id) one W c.series.ensures c.requires.within in
@@ -234,10 +289,15 @@ returns-then-is_kept-clause-answered g c = λ total book series told' stands fou
     let answer : Result Edited Refusal = Ok (with_cleared book c.args.id series c.args.slot c.args.count) in
     let kept = c.is_kept.ensures.0 c.if-is_kept.true in
     let still : changed ≡ txn = c.in_ok-tree.ensures.kept kept.0 in
-    let same : slots ≡ series.slots = c.in_ok-tree.ensures.same kept.0 (view old.pages).image txn.superblock.total series.slots slots (pages_of_others before (length book) c.args.id) (record { are_told = told'; are = refl }) held_tree edited in
-    let book_is : with_slots book c.args.id series slots ≡ book = ap (λ l. with_slots book c.args.id series l) same ∙ with_same book c.args.id series found in
-    let after = kept_stands (view old.pages).image (view mid.pages).image txn changed total book (with_slots book c.args.id series slots) book_is (c.clear_run.ensures.moved.reads.image told') still stands in
-    staged_kept answer (with_cleared book c.args.id series c.args.slot c.args.count) (touched_slots series c.args.slot (c.args.slot + c.args.count)) total c.nothing.result txn changed (left_by changed (view mid.pages).image) (λ now. refl) (c.nothing.ensures.slots ∙ held_tree.is_tree.slots) after still
+    let same : slots ≡ series.slots = c.in_ok-tree.ensures.same kept.0 (view old.pages).image txn.superblock.total series.slots slots
+    (pages_of_others before (length book) c.args.id) (record { are_told = told'; are = refl }) held_tree edited in
+    let book_is : with_slots book c.args.id series slots ≡ book = ap (λ l. with_slots book c.args.id series l) same
+    ∙ with_same book c.args.id series found in
+    let after = kept_stands (view old.pages).image (view mid.pages).image txn changed total book
+    (with_slots book c.args.id series slots) book_is (c.clear_run.ensures.moved.reads.image told') still stands in
+    staged_kept answer (with_cleared book c.args.id series c.args.slot c.args.count)
+    (touched_slots series c.args.slot (c.args.slot + c.args.count)) total c.nothing.result txn changed
+    (left_by changed (view mid.pages).image) (λ now. refl) (c.nothing.ensures.slots ∙ held_tree.is_tree.slots) after still
 
 pub returns-clause-kept : goal.returns-clause-kept
 returns-clause-kept g c = λ total book series told' stands found keeps.
@@ -252,7 +312,8 @@ returns-clause-kept g c = λ total book series told' stands found keeps.
     let tree = one.tree in
     let items : List StoredSeries = c.args.catalog.now.series.items in
     let before : Image = left_by txn (view old.pages).image in
-    let store : IsStore before txn.superblock book × (txn.superblock.total ≡ total) = staged_store txn (view old.pages).image total book c.requires.staged.catalog.small stands in
+    let store : IsStore before txn.superblock book × (txn.superblock.total ≡ total) = staged_store txn
+    (view old.pages).image total book c.requires.staged.catalog.small stands in
     let says : entry before c.args.id ≡ entry_of one = c.requires.staged.catalog.are_told told' c.args.id one c.series.ensures in
     let W : StoredSeries → Type 0 = λ one. c.args.slot + c.args.count ≤ one.tree.slots in
     let room : W one = known_some (slice_get items c.args.id) one W c.series.ensures c.requires.within in
@@ -261,7 +322,8 @@ returns-clause-kept g c = λ total book series told' stands found keeps.
     let held_tree = own_tree before txn.superblock book c.args.id series one store.0 found says in
     let answer : Result Edited Refusal = Ok (with_cleared book c.args.id series c.args.slot c.args.count) in
     let other : slots ≡ series.slots → ⊥ = λ equal.
-    let unchanged = c.in_ok-tree.ensures.idle refl (view old.pages).image txn.superblock.total series.slots slots (pages_of_others before (length book) c.args.id) (record { are_told = told'; are = refl }) held_tree edited equal in
+    let unchanged = c.in_ok-tree.ensures.idle refl (view old.pages).image txn.superblock.total series.slots slots
+    (pages_of_others before (length book) c.args.id) (record { are_told = told'; are = refl }) held_tree edited equal in
     let yes : c.is_kept.result ≡ true = c.is_kept.ensures.1 (unchanged, c.in_ok-tree.ensures.tree.slots_are) in
     let no_more : c.is_kept.result ≡ false = c.if-is_kept.false in
     cc (yes, no_more) in

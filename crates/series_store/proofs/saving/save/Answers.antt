@@ -25,12 +25,18 @@ returns-clause-staged g c =
     let is : E one = known_some (slice_get items c.args.id) one E c.series.ensures c.requires.entry in
     let I : StoredSeries → Type 0 = λ one. c.set_tree.new.self.series.items ≡ with_tree items c.args.id one c.args.tree in
     record {
-      total_is = ap (λ (s : Superblock). s.total) c.put_record.ensures.superblock ∙ c.requires.staged.total_is ∙ ap (λ (s : Superblock). s.total) (sym c.put_record.ensures.space);
-      catalog = catalog_as (g.P.Pages.told old.pages) (g.P.Pages.told new.pages) (left_by c.put_record.new.txn before) (left_by c.put_record.new.txn (g.P.Pages.view new.pages).image) s c.put_record.new.txn.superblock
+      total_is = ap (λ (s : Superblock). s.total) c.put_record.ensures.superblock ∙ c.requires.staged.total_is
+          ∙ ap (λ (s : Superblock). s.total) (sym c.put_record.ensures.space);
+      catalog = catalog_as (g.P.Pages.told old.pages) (g.P.Pages.told new.pages) (left_by c.put_record.new.txn before)
+          (left_by c.put_record.new.txn (g.P.Pages.view new.pages).image) s c.put_record.new.txn.superblock
           c.set_tree.new.self.series.items c.set_tree.new.self.series.items c.put_record.ensures.reads.was_told
-          (λ now. ap (λ (i : Image). left_by c.put_record.new.txn i) (c.put_record.ensures.reads.image (c.put_record.ensures.reads.was_told now))) c.put_record.ensures.superblock refl
-          (saved_catalog (g.P.Pages.told old.pages) (left_by c.args.txn.now before) (left_by c.put_record.new.txn before) s items c.set_tree.new.self.series.items c.args.id one c.args.tree c.args.catalog.now.few c.series.ensures is
-          (known_some (slice_get items c.args.id) one I c.series.ensures c.set_tree.ensures.set) c.set_tree.ensures.len c.in_ok-put_record.ensures.set (λ now. c.in_ok-put_record.ensures.kept now s.fresh is) c.requires.staged.catalog);
+          (λ now. ap (λ (i : Image). left_by c.put_record.new.txn i)
+          (c.put_record.ensures.reads.image (c.put_record.ensures.reads.was_told now))) c.put_record.ensures.superblock refl
+          (saved_catalog (g.P.Pages.told old.pages) (left_by c.args.txn.now before)
+          (left_by c.put_record.new.txn before) s items c.set_tree.new.self.series.items c.args.id one c.args.tree
+          c.args.catalog.now.few c.series.ensures is
+          (known_some (slice_get items c.args.id) one I c.series.ensures c.set_tree.ensures.set) c.set_tree.ensures.len
+          c.in_ok-put_record.ensures.set (λ now. c.in_ok-put_record.ensures.kept now s.fresh is) c.requires.staged.catalog);
     }
 
 pub returns-clause-stands : goal.returns-clause-stands
@@ -43,8 +49,12 @@ returns-clause-stands g c = λ told one book series slots there part.
     let is : E one = known_some (slice_get items c.args.id) one E there c.requires.entry in
     let same : c.series.result.now ≡ one = same_Some c.series.result.now one (sym c.series.ensures ∙ there) in
     let P : Image → Type 0 = λ i. StandsForBook (left_by c.put_record.new.txn i) s.total (with_slots book c.args.id series slots) in
-    let S : StoredSeries → Type 0 = λ x. IsRecordSet (left_by c.args.txn.now before) (left_by c.put_record.new.txn before) c.args.id (entry_of (record x { tree = c.args.tree })) in
-    let K : StoredSeries → Type 0 = λ x. IsEntry s.fresh (entry_of (record x { tree = c.args.tree })) → KeepsRecords (left_by c.args.txn.now before) (left_by c.put_record.new.txn before) c.args.id s.fresh in
+    let S : StoredSeries → Type 0 = λ x. IsRecordSet (left_by c.args.txn.now before) (left_by c.put_record.new.txn before) c.args.id
+    (entry_of (record x { tree = c.args.tree })) in
+    let K : StoredSeries → Type 0 = λ x. IsEntry s.fresh (entry_of (record x { tree = c.args.tree }))
+    → KeepsRecords (left_by c.args.txn.now before) (left_by c.put_record.new.txn before) c.args.id s.fresh in
     subst P (sym (c.put_record.ensures.reads.image told))
-    (saved_book part.before (left_by c.args.txn.now before) (left_by c.put_record.new.txn before) part.numbers s s.total book c.args.id series slots one c.args.tree part.store (sym part.later.total) part.there part.says part.later part.changed is
+    (saved_book part.before (left_by c.args.txn.now before)
+    (left_by c.put_record.new.txn before) part.numbers s s.total book c.args.id series slots one c.args.tree part.store
+    (sym part.later.total) part.there part.says part.later part.changed is
     (subst S same (c.in_ok-put_record.ensures.set told)) (subst K same (c.in_ok-put_record.ensures.kept told s.fresh) is))

@@ -50,7 +50,8 @@ returns-in-Err-clause-gives g c =
     let sent = g.P.Streams.sent (shown.pages it) in
     record {
       lines = [];
-      gives = first_memory g.R.Reply.makes [] c.args.kept.now c.args.kept.now (λ n. is_open n it.sessions) (λ n. is_open n it.sessions) sent sent
+      gives = first_memory g.R.Reply.makes [] c.args.kept.now c.args.kept.now (λ n. is_open n it.sessions)
+          (λ n. is_open n it.sessions) sent sent
           (gives_none g.R.Reply.makes c.args.kept.now (λ n. is_open n it.sessions) sent);
       are_told = tt;
     }

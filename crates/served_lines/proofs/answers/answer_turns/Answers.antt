@@ -178,7 +178,8 @@ returns-clause-known g c = λ knows follows known.
     (c.run_lines.ensures.done (Any named) here) (c.run_lines.ensures.stops (Any named) here) in
     let P : Result (Unit {0}) (AnswerEnd g.row.F.Denot) → Type 0 = λ x. IfErr x (EndsKnown makes knows) in
     subst P (sym c.answer_of.ensures)
-    (known_by makes knows follows all.0.lines turns.kept.now work.kept.now it.sessions new.sessions (sent pages) (sent pages') (answer_of r) known
+    (known_by makes knows follows all.0.lines turns.kept.now work.kept.now it.sessions new.sessions (sent pages) (sent pages')
+    (answer_of r) known
     all.0.gives)
 
 pub returns-clause-gives : goal.returns-clause-gives
@@ -230,7 +231,8 @@ returns-clause-blames g c =
       spells = none_spelled turns.edits.items c.requires.none;
       sessions_are = refl;
     } in
-    let P : Result (Unit {0}) (AnswerEnd g.row.F.Denot) → Type 0 = λ x. IfErr x (BlamesOf left sent makes turns.kept.now work.kept.now it new) in
+    let P : Result (Unit {0}) (AnswerEnd g.row.F.Denot)
+    → Type 0 = λ x. IfErr x (BlamesOf left sent makes turns.kept.now work.kept.now it new) in
     subst P (sym c.answer_of.ensures)
     (blames_so makes turns.kept.now work.kept.now it.sessions new.sessions (sent pages) (sent pages') turns.kept.ghost_name
     work.kept.ghost_name work.edits.items (shown.IsTold new) (shown.view new) (left pages) (left pages') (pieces pages) (pieces

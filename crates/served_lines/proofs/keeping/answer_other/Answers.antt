@@ -47,7 +47,8 @@ returns-clause-does g c = λ stand at stands.
     line_does g.R.Reply.makes turns.kept.ghost_name turns.kept.now turns.edits.items (shown.IsTold it) (shown.view it) (shown.sessions it)
     (g.P.Streams.sent (shown.pages it)) next.kept.ghost_name c.settle.ensures.same_reference next.kept.now next.edits.items (shown.IsTold
     mid)
-    (shown.view mid) (shown.sessions mid) (g.P.Streams.sent (shown.pages mid)) (none_spelled next.edits.items c.settle.ensures.none) c.in-Ok.ensures.blames c.in-Ok.ensures.done (Some
+    (shown.view mid) (shown.sessions mid) (g.P.Streams.sent (shown.pages mid))
+    (none_spelled next.edits.items c.settle.ensures.none) c.in-Ok.ensures.blames c.in-Ok.ensures.done (Some
     c.args.line.now) (said_some c.args.line.now c.requires.some) c.requires.other
     next.kept.ghost_name refl c.answer_line.new.kept (shown.IsTold new) (shown.view new) (shown.sessions new) (g.P.Streams.sent
     (shown.pages new))
@@ -65,7 +66,8 @@ returns-clause-stops g c = λ stand at stands.
     line_stops g.R.Reply.makes turns.kept.ghost_name turns.kept.now turns.edits.items (shown.IsTold it) (shown.view it) (shown.sessions it)
     (g.P.Streams.sent (shown.pages it)) next.kept.ghost_name c.settle.ensures.same_reference next.kept.now next.edits.items (shown.IsTold
     mid)
-    (shown.view mid) (shown.sessions mid) (g.P.Streams.sent (shown.pages mid)) (none_spelled next.edits.items c.settle.ensures.none) c.in-Ok.ensures.blames c.in-Ok.ensures.done (Some
+    (shown.view mid) (shown.sessions mid) (g.P.Streams.sent (shown.pages mid))
+    (none_spelled next.edits.items c.settle.ensures.none) c.in-Ok.ensures.blames c.in-Ok.ensures.done (Some
     c.args.line.now) (said_some c.args.line.now c.requires.some) c.requires.other
     next.kept.ghost_name refl c.answer_line.new.kept (shown.IsTold new) (shown.view new) (shown.sessions new) (g.P.Streams.sent
     (shown.pages new))
@@ -83,7 +85,8 @@ returns-clause-leaves g c = λ stand at stands lasting.
     line_leaves g.R.Reply.makes turns.kept.ghost_name turns.kept.now turns.edits.items (shown.IsTold it) (shown.view it) (shown.sessions it)
     (g.P.Streams.sent (shown.pages it)) next.kept.ghost_name c.settle.ensures.same_reference next.kept.now next.edits.items (shown.IsTold
     mid)
-    (shown.view mid) (shown.sessions mid) (g.P.Streams.sent (shown.pages mid)) (none_spelled next.edits.items c.settle.ensures.none) c.in-Ok.ensures.blames c.in-Ok.ensures.done (Some
+    (shown.view mid) (shown.sessions mid) (g.P.Streams.sent (shown.pages mid))
+    (none_spelled next.edits.items c.settle.ensures.none) c.in-Ok.ensures.blames c.in-Ok.ensures.done (Some
     c.args.line.now) (said_some c.args.line.now c.requires.some) c.requires.other
     next.kept.ghost_name refl c.answer_line.new.kept (shown.IsTold new) (shown.view new) (shown.sessions new) (g.P.Streams.sent
     (shown.pages new))

@@ -45,7 +45,8 @@ returns-clause-does g c = λ stand at stands.
     line_does g.R.Reply.makes turns.kept.ghost_name turns.kept.now turns.edits.items (shown.IsTold it) (shown.view it) (shown.sessions it)
     (g.P.Streams.sent (shown.pages it)) next.kept.ghost_name c.settle.ensures.same_reference next.kept.now next.edits.items (shown.IsTold
     mid)
-    (shown.view mid) (shown.sessions mid) (g.P.Streams.sent (shown.pages mid)) (none_spelled next.edits.items c.settle.ensures.none) c.in-Ok.ensures.blames c.in-Ok.ensures.done None refl refl
+    (shown.view mid) (shown.sessions mid) (g.P.Streams.sent (shown.pages mid))
+    (none_spelled next.edits.items c.settle.ensures.none) c.in-Ok.ensures.blames c.in-Ok.ensures.done None refl refl
     next.kept.ghost_name refl c.answer_long_line.new.kept (shown.IsTold new) (shown.view new) (shown.sessions new) (g.P.Streams.sent
     (shown.pages new))
     c.answer_long_line.result stand at stands e.blames e.done e.keeps.told (λ told. e.keeps.disk.image) (λ total book told stands.
@@ -62,7 +63,8 @@ returns-clause-stops g c = λ stand at stands.
     line_stops g.R.Reply.makes turns.kept.ghost_name turns.kept.now turns.edits.items (shown.IsTold it) (shown.view it) (shown.sessions it)
     (g.P.Streams.sent (shown.pages it)) next.kept.ghost_name c.settle.ensures.same_reference next.kept.now next.edits.items (shown.IsTold
     mid)
-    (shown.view mid) (shown.sessions mid) (g.P.Streams.sent (shown.pages mid)) (none_spelled next.edits.items c.settle.ensures.none) c.in-Ok.ensures.blames c.in-Ok.ensures.done None refl refl
+    (shown.view mid) (shown.sessions mid) (g.P.Streams.sent (shown.pages mid))
+    (none_spelled next.edits.items c.settle.ensures.none) c.in-Ok.ensures.blames c.in-Ok.ensures.done None refl refl
     next.kept.ghost_name refl c.answer_long_line.new.kept (shown.IsTold new) (shown.view new) (shown.sessions new) (g.P.Streams.sent
     (shown.pages new))
     c.answer_long_line.result stand at stands e.gives e.blames e.stops (λ total book told stands. e.keeps.disk.reads) e.keeps.disk.syncs
@@ -79,7 +81,8 @@ returns-clause-leaves g c = λ stand at stands lasting.
     line_leaves g.R.Reply.makes turns.kept.ghost_name turns.kept.now turns.edits.items (shown.IsTold it) (shown.view it) (shown.sessions it)
     (g.P.Streams.sent (shown.pages it)) next.kept.ghost_name c.settle.ensures.same_reference next.kept.now next.edits.items (shown.IsTold
     mid)
-    (shown.view mid) (shown.sessions mid) (g.P.Streams.sent (shown.pages mid)) (none_spelled next.edits.items c.settle.ensures.none) c.in-Ok.ensures.blames c.in-Ok.ensures.done None refl refl
+    (shown.view mid) (shown.sessions mid) (g.P.Streams.sent (shown.pages mid))
+    (none_spelled next.edits.items c.settle.ensures.none) c.in-Ok.ensures.blames c.in-Ok.ensures.done None refl refl
     next.kept.ghost_name refl c.answer_long_line.new.kept (shown.IsTold new) (shown.view new) (shown.sessions new) (g.P.Streams.sent
     (shown.pages new))
     stand at stands lasting

@@ -12,7 +12,8 @@ use Rattle.chart_service.specs.declared.failure.ServeEnd.TheVariants.{ReadFault,
 use Rattle.chart_service.proofs.Faulting.{serve_goes}
 use Rattle.chart_service.proofs.Naming.{serve_answers, serve_named}
 use Rattle.chart_service.proofs.Sending.{ok_so}
-use Rattle.chart_service.proofs.Served.{spelling_makes, spells, done_spelled, ends_spelled, lasts_spelled, served_ok, served_fault, served_bad}
+use Rattle.chart_service.proofs.Served.{spelling_makes, spells, done_spelled, ends_spelled, lasts_spelled, served_ok, served_fault}
+use Rattle.chart_service.proofs.Served.{served_bad}
 use Rattle.served_lines.specs.Blaming.{ServeBlames}
 use Rattle.served_lines.proofs.BlameLemmas.{serve_blames}
 use Rattle.served_lines.proofs.serving.serve.Goals as goal
@@ -81,7 +82,8 @@ pub returns-clause-named : goal.returns-clause-named
 returns-clause-named g c =
     let old = c.args.service.now in
     let new = c.answer_lines-answer.new.service in
-    serve_named c.answer_lines-answer.ensures.gives.lines _ _ old.sessions new.sessions (g.P.Streams.sent (shown.pages old)) (g.P.Streams.sent (shown.pages new))
+    serve_named c.answer_lines-answer.ensures.gives.lines _ _ old.sessions new.sessions (g.P.Streams.sent (shown.pages old))
+    (g.P.Streams.sent (shown.pages new))
     c.answer_lines-answer.result c.answer_lines-answer.ensures.gives.gives
 
 pub returns-clause-faults : goal.returns-clause-faults
@@ -109,6 +111,8 @@ returns-clause-blames g c =
     let left = g.P.Streams.left (shown.pages old) in
     let before = g.P.Streams.sent (shown.pages old) in
     let now = g.P.Streams.sent (shown.pages new) in
-    let E : Result (Unit {0}) ServeEnd → Type 0 = λ r. IfErr r (ServeBlames old.sessions left before now (shown.IsTold new) (shown.view new).size (shown.image new)) in
+    let E : Result (Unit {0}) ServeEnd → Type 0 = λ r. IfErr r
+    (ServeBlames old.sessions left before now (shown.IsTold new) (shown.view new).size (shown.image new)) in
     subst E (sym c.served.ensures)
-    (serve_blames c.answer_lines-answer.result _ _ old.sessions left before now (shown.IsTold new) (shown.view new).size (shown.image new) c.answer_lines-answer.ensures.blames)
+    (serve_blames c.answer_lines-answer.result _ _ old.sessions left before now (shown.IsTold new) (shown.view new).size
+    (shown.image new) c.answer_lines-answer.ensures.blames)

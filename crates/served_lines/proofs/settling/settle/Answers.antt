@@ -86,7 +86,8 @@ pub returns-then-is_empty-clause-gives : goal.returns-then-is_empty-clause-gives
 returns-then-is_empty-clause-gives g c = λ lines spells.
     let it = c.args.service.now in
     let none : length c.args.turns.now.edits.items ≡ 0 = grind (arith, common_steps) in
-    none_given g.R.Reply.makes lines c.args.turns.now.edits.items none spells c.args.turns.now.kept.now (λ n. is_open n it.sessions) (g.P.Streams.sent (shown.pages it))
+    none_given g.R.Reply.makes lines c.args.turns.now.edits.items none spells c.args.turns.now.kept.now (λ n. is_open n it.sessions)
+    (g.P.Streams.sent (shown.pages it))
 
 pub returns-clause-gives : goal.returns-clause-gives
 returns-clause-gives g c = λ lines spells.
@@ -97,7 +98,8 @@ pub returns-then-is_empty-clause-blames : goal.returns-then-is_empty-clause-blam
 returns-then-is_empty-clause-blames g c = λ lines spells.
     let it = c.args.service.now in
     let none : length c.args.turns.now.edits.items ≡ 0 = grind (arith, common_steps) in
-    none_last g.R.Reply.makes lines c.args.turns.now.edits.items none spells c.args.turns.now.kept.now it.sessions (g.P.Streams.sent (shown.pages it))
+    none_last g.R.Reply.makes lines c.args.turns.now.edits.items none spells c.args.turns.now.kept.now it.sessions
+    (g.P.Streams.sent (shown.pages it))
 
 pub returns-clause-blames : goal.returns-clause-blames
 returns-clause-blames g c = λ lines spells.

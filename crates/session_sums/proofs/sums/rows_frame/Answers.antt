@@ -9,10 +9,13 @@ overflow_cast-result c =
 
 pub returns-clause-frame : goal.returns-clause-frame
 returns-clause-frame c = λ samples are.
-    frame_shows c.args.session c.args.grid c.args.range samples c.args.rows c.shown_range-shown.result c.w.result c.h.result (length c.as_slice.result.now) c.w.ensures.value c.h.ensures.value (ap length c.as_slice.ensures)
+    frame_shows c.args.session c.args.grid c.args.range samples c.args.rows c.shown_range-shown.result c.w.result c.h.result
+    (length c.as_slice.result.now) c.w.ensures.value c.h.ensures.value (ap length c.as_slice.ensures)
     (c.shown_range-shown.ensures.may c.args.grid.w c.requires.drawable) (c.shown_range-shown.ensures.shows c.args.grid samples are)
 
 pub returns-clause-fits : goal.returns-clause-fits
 returns-clause-fits c =
-    frame_fits c.args.session c.args.grid c.shown_range-shown.result c.args.rows c.w.result c.h.result (length c.as_slice.result.now) c.w.ensures.value c.h.ensures.value (ap length c.as_slice.ensures)
-    (c.shown_range-shown.ensures.may c.args.grid.w c.requires.drawable) c.requires.session c.args.grid.wide c.args.grid.high c.requires.rising c.requires.drawable c.requires.ordered
+    frame_fits c.args.session c.args.grid c.shown_range-shown.result c.args.rows c.w.result c.h.result
+    (length c.as_slice.result.now) c.w.ensures.value c.h.ensures.value (ap length c.as_slice.ensures)
+    (c.shown_range-shown.ensures.may c.args.grid.w c.requires.drawable) c.requires.session c.args.grid.wide c.args.grid.high
+    c.requires.rising c.requires.drawable c.requires.ordered

@@ -27,12 +27,16 @@ returns-in_default-clause-exports g c =
     let window = c.args.window in
     let pages = shown.pages c.args.store in
     let disk = pages.disk in
-    let D : g.row.W.Denot → Type 0 = λ d. ExportsStore name window pages.count (view disk) (view d) (sent disk) (sent d) (sends disk) (sends d) UnknownSeries in
+    let D : g.row.W.Denot → Type 0 = λ d. ExportsStore name window pages.count (view disk) (view d) (sent disk) (sent d) (sends disk)
+    (sends d) UnknownSeries in
     subst D (sym c.disk_of.ensures.disk)
-    (none_found name window pages.count (view disk) (sent disk) (sends disk) (omega (arith, pages.few)) (rests_new pages.count (view disk) (shown.numbers c.args.store) (pages.at_rest c.requires) (c.args.store.space.spelled c.requires))
-    (lacks_record pages.count (view disk) (shown.numbers c.args.store) name (rests_new pages.count (view disk) (shown.numbers c.args.store) (pages.at_rest c.requires) (c.args.store.space.spelled c.requires))
+    (none_found name window pages.count (view disk) (sent disk) (sends disk) (omega (arith, pages.few))
+    (rests_new pages.count (view disk) (shown.numbers c.args.store) (pages.at_rest c.requires) (c.args.store.space.spelled c.requires))
+    (lacks_record pages.count (view disk) (shown.numbers c.args.store) name
+    (rests_new pages.count (view disk) (shown.numbers c.args.store) (pages.at_rest c.requires) (c.args.store.space.spelled c.requires))
     (λ honest. record { spelled = c.args.store.space.spelled c.requires honest; rules = c.args.store.space.rules })
-    (λ honest. no_record (pages_of pages.count (view disk).image) (shown.numbers c.args.store) (shown.catalog c.args.store) name c.args.store.count (c.args.store.told c.requires honest) c.in_default.ensures.named))
+    (λ honest. no_record (pages_of pages.count (view disk).image) (shown.numbers c.args.store)
+    (shown.catalog c.args.store) name c.args.store.count (c.args.store.told c.requires honest) c.in_default.ensures.named))
     (λ total book honest stands. c.in_default.ensures.info total book c.requires honest stands))
 
 pub returns-clause-exports : goal.returns-clause-exports
@@ -53,16 +57,21 @@ returns-clause-exports g c =
     let w = g.met.W.World in
     let P : g.row.W.Denot → Type 0 = λ d. IsClosed (view d) in
     let closed = subst P c.disk_of-2.ensures.disk (c.disk_of-2.ensures.rests (e.sends.fit c.requires)) in
-    let D : g.row.W.Denot → Type 0 = λ d. ExportsStore name window pages.count (view disk) (view d) (sent disk) (sent d) (sends disk) (sends d) c.export_end.result in
-    let E : End → Type 0 = λ s. ExportsStore name window pages.count (view disk) (view new) (sent disk) (sent new) (sends disk) (sends new) s in
+    let D : g.row.W.Denot → Type 0 = λ d. ExportsStore name window pages.count (view disk) (view d) (sent disk) (sent d) (sends disk)
+    (sends d) c.export_end.result in
+    let E : End → Type 0 = λ s. ExportsStore name window pages.count (view disk) (view new) (sent disk) (sent new) (sends disk)
+    (sends new) s in
     subst D (sym c.disk_of-2.ensures.disk)
     (subst E (sym c.export_end.ensures)
-    (series_sent name window pages.count end_pages.count pages.sound end_pages.sound (view disk) (view new) (shown.numbers before) (shown.numbers after) e.sends (rests_new pages.count (view disk) (shown.numbers before) (pages.at_rest c.requires) (before.space.spelled c.requires)) closed c.in-Some.info.id
+    (series_sent name window pages.count end_pages.count pages.sound end_pages.sound (view disk) (view new) (shown.numbers before)
+    (shown.numbers after) e.sends (rests_new pages.count (view disk) (shown.numbers before) (pages.at_rest c.requires)
+    (before.space.spelled c.requires)) closed c.in-Some.info.id
     (λ total book honest stands. (c.in-Some.ensures.info total book c.requires honest stands).0)
     (sent disk) (sent new) (sends disk) (sends new) answer (w.beside_send_faults disk) (w.beside_send_faults new)
     (omega (arith, c.in-Some.ensures.there, before.count)) before.space.rules.total_high (omega (arith, pages.few))
     (λ honest. record { spelled = before.space.spelled c.requires honest; rules = before.space.rules })
-    (λ honest. named_record (pages_of pages.count (view disk).image) (shown.catalog before) name c.in-Some.info.id c.in-Some.ensures.there (before.told c.requires honest) c.in-Some.ensures.named)
+    (λ honest. named_record (pages_of pages.count (view disk).image) (shown.catalog before) name c.in-Some.info.id c.in-Some.ensures.there
+    (before.told c.requires honest) c.in-Some.ensures.named)
     (λ total book series honest stands there. kept_at before total book c.in-Some.info.id series c.requires honest stands there)
     (λ series honest kept. e.salvaged series honest kept)
     (λ series honest kept. e.salvaged_part series honest kept)
@@ -98,4 +107,5 @@ returns-clause-faults g c =
     let E : End → Type 0 = λ e. CountsFault (end_fault e) old (view new) in
     subst D (sym c.disk_of-2.ensures.disk)
     (subst E (sym c.export_end.ensures)
-    (counts_told (fault_in send_fault answer) (end_fault (export_end answer)) old (view new) (send_fault_is answer) c.export_series-answer.ensures.faults))
+    (counts_told (fault_in send_fault answer) (end_fault (export_end answer)) old (view new)
+    (send_fault_is answer) c.export_series-answer.ensures.faults))

@@ -15,9 +15,16 @@ loop-id-preserved g c = record {
       elim c.match-series_at.branch [
         | in-Some+in_ok-add_series w ↦
             let is = w.in-Some.ensures.books total book fit told stands in
-            list_step book c.loop-id.id c.loop-id.text.items c.match-series_at.text.items w.in-Some.series.name.now w.in-Some.series.axis w.in-Some.series.scale is.series is.there is.name is.axis is.scale before (let added = w.in_ok-add_series.ensures.line in let same = w.text-is in cc)
+            list_step book c.loop-id.id c.loop-id.text.items c.match-series_at.text.items w.in-Some.series.name.now w.in-Some.series.axis
+            w.in-Some.series.scale is.series is.there is.name is.axis is.scale before (let added = w.in_ok-add_series.ensures.line in
+            let same = w.text-is in cc)
         | in_default w ↦
-            let low : c.loop-id.id < length book = omega (arith, c.loop-id-test.true, c.loop-id.auto.id-end, c.len-id-end.ensures.books total book fit told stands) in
+            let low : c.loop-id.id < length book = omega (
+              arith,
+              c.loop-id-test.true,
+              c.loop-id.auto.id-end,
+              c.len-id-end.ensures.books total book fit told stands,
+            ) in
             absurd (no_none book c.loop-id.id low (w.in_default.ensures.books total book fit told stands))
       ];
   records =
@@ -26,21 +33,39 @@ loop-id-preserved g c = record {
         | in-Some+in_ok-add_series w ↦
             let one = there catalog c.loop-id.id (w.in-Some.ensures.there.0 refl) in
             let is = w.in-Some.ensures.stored one.0 one.1 in
-            records_step (map entry_of catalog) c.loop-id.id c.loop-id.text.items c.match-series_at.text.items w.in-Some.series.name.now w.in-Some.series.axis w.in-Some.series.scale (entry_of one.0) (entry_there catalog c.loop-id.id one.0 one.1) is.name is.start is.step is.slots is.scale c.loop-id.invariant.records
+            records_step (map entry_of catalog) c.loop-id.id c.loop-id.text.items c.match-series_at.text.items w.in-Some.series.name.now
+            w.in-Some.series.axis w.in-Some.series.scale (entry_of one.0)
+            (entry_there catalog c.loop-id.id one.0 one.1) is.name is.start is.step is.slots is.scale c.loop-id.invariant.records
             (let added = w.in_ok-add_series.ensures.line in let same = w.text-is in cc)
         | in_default w ↦
-            let low : c.loop-id.id < length catalog = omega (arith, c.loop-id-test.true, c.loop-id.auto.id-end, c.len-id-end.ensures.count) in
+            let low : c.loop-id.id < length catalog = omega (
+              arith,
+              c.loop-id-test.true,
+              c.loop-id.auto.id-end,
+              c.len-id-end.ensures.count,
+            ) in
             absurd (cc (w.in_default.ensures.there.1 low))
       ];
 }
 
 pub returns-clause-books : goal.returns-clause-books
 returns-clause-books g c = λ total book fit told stands.
-    let long : length book ≤ c.loop-id.id = omega (arith, c.loop-id-test.false, c.loop-id.auto.id-end, c.len-id-end.ensures.books total book fit told stands) in
+    let long : length book ≤ c.loop-id.id = omega (
+      arith,
+      c.loop-id-test.false,
+      c.loop-id.auto.id-end,
+      c.len-id-end.ensures.books total book fit told stands,
+    ) in
     list_whole book c.loop-id.id c.loop-id.text.items long (c.loop-id.invariant.books total book fit told stands)
 
 pub returns-clause-records : goal.returns-clause-records
 returns-clause-records g c =
     let catalog = shown.catalog c.args.store.now in
-    let long : length (map entry_of catalog) ≤ c.loop-id.id = omega (arith, c.loop-id-test.false, c.loop-id.auto.id-end, c.len-id-end.ensures.count, as_long catalog) in
+    let long : length (map entry_of catalog) ≤ c.loop-id.id = omega (
+      arith,
+      c.loop-id-test.false,
+      c.loop-id.auto.id-end,
+      c.len-id-end.ensures.count,
+      as_long catalog,
+    ) in
     records_whole (map entry_of catalog) c.loop-id.id c.loop-id.text.items long c.loop-id.invariant.records

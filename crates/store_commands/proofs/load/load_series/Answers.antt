@@ -35,10 +35,17 @@ returns-in-Ok-answer-clause-ends g c =
     let new = c.send_text.result.1 in
     let readings = c.in-Ok-answer.readings in
     let e = c.in-Ok.ensures in
-    let s = stores_on name opened.count (view old) (view opened.disk) (view mid) (traffic left sent reads sends old mid) (traffic left sent reads sends opened.disk mid) c.load_store-answer.result.0 (Ok readings) e.count c.in-Ok-answer.is e.opens e.quiet (opened_book opened.count (view old) (view opened.disk) e.pages)
-    (traffic_over view left sent reads sends w.beside_left w.beside_sent w.beside_read_faults w.beside_send_faults old opened.disk mid e.opens.beside_is) c.load_store-answer.ensures.stores in
-    let costs = costs_on name opened.count (view old) (view opened.disk) (view mid) (left old) (left opened.disk) e.count e.opens (sym (w.beside_left opened.disk) ∙ ap (λ (b : Beside). b.left) e.opens.beside_is ∙ w.beside_left old) c.load_store-answer.ensures.costs in
-    sent_ends name (view old) (view mid) (view new) (traffic left sent reads sends old mid) (left new) (sent new) (reads new) (sends new) readings c.send_text.result.0 c.send_text.ensures.left s (c.send_text.ensures.sends (loaded_text readings) c.loaded_text.ensures) costs
+    let s = stores_on name opened.count (view old) (view opened.disk) (view mid) (traffic left sent reads sends old mid)
+    (traffic left sent reads sends opened.disk mid) c.load_store-answer.result.0 (Ok readings) e.count c.in-Ok-answer.is e.opens e.quiet
+    (opened_book opened.count (view old) (view opened.disk) e.pages)
+    (traffic_over view left sent reads sends w.beside_left w.beside_sent w.beside_read_faults w.beside_send_faults old opened.disk mid
+    e.opens.beside_is) c.load_store-answer.ensures.stores in
+    let costs = costs_on name opened.count (view old) (view opened.disk) (view mid) (left old) (left opened.disk) e.count e.opens
+    (sym (w.beside_left opened.disk) ∙ ap (λ (b : Beside). b.left) e.opens.beside_is
+    ∙ w.beside_left old) c.load_store-answer.ensures.costs in
+    sent_ends name (view old) (view mid) (view new) (traffic left sent reads sends old mid) (left new) (sent new) (reads new)
+    (sends new) readings c.send_text.result.0 c.send_text.ensures.left s
+    (c.send_text.ensures.sends (loaded_text readings) c.loaded_text.ensures) costs
 
 pub returns-in-Err-answer-clause-ends : goal.returns-in-Err-answer-clause-ends
 returns-in-Err-answer-clause-ends g c =
@@ -54,9 +61,14 @@ returns-in-Err-answer-clause-ends g c =
     let new = c.load_store-answer.result.1 in
     let end = c.in-Err-answer.end in
     let e = c.in-Ok.ensures in
-    let s = stores_on name opened.count (view old) (view opened.disk) (view new) (traffic left sent reads sends old new) (traffic left sent reads sends opened.disk new) c.load_store-answer.result.0 (Err end) e.count c.in-Err-answer.is e.opens e.quiet (opened_book opened.count (view old) (view opened.disk) e.pages)
-    (traffic_over view left sent reads sends w.beside_left w.beside_sent w.beside_read_faults w.beside_send_faults old opened.disk new e.opens.beside_is) c.load_store-answer.ensures.stores in
-    let costs = costs_on name opened.count (view old) (view opened.disk) (view new) (left old) (left opened.disk) e.count e.opens (sym (w.beside_left opened.disk) ∙ ap (λ (b : Beside). b.left) e.opens.beside_is ∙ w.beside_left old) c.load_store-answer.ensures.costs in
+    let s = stores_on name opened.count (view old) (view opened.disk) (view new) (traffic left sent reads sends old new)
+    (traffic left sent reads sends opened.disk new) c.load_store-answer.result.0 (Err end) e.count c.in-Err-answer.is e.opens e.quiet
+    (opened_book opened.count (view old) (view opened.disk) e.pages)
+    (traffic_over view left sent reads sends w.beside_left w.beside_sent w.beside_read_faults w.beside_send_faults old opened.disk new
+    e.opens.beside_is) c.load_store-answer.ensures.stores in
+    let costs = costs_on name opened.count (view old) (view opened.disk) (view new) (left old) (left opened.disk) e.count e.opens
+    (sym (w.beside_left opened.disk) ∙ ap (λ (b : Beside). b.left) e.opens.beside_is
+    ∙ w.beside_left old) c.load_store-answer.ensures.costs in
     stopped_ends name (view old) (view new) (traffic left sent reads sends old new) end s costs
 
 pub returns-in-Err-clause-ends : goal.returns-in-Err-clause-ends
@@ -67,8 +79,10 @@ returns-in-Err-clause-ends g c =
     let old = c.args.world in
     let back = c.in-Err.field-0 in
     let e = c.in-Err.ensures in
-    unloaded c.args.name.now (view old) (view back.value) (traffic left sent g.W.Streams.read_faults g.W.Streams.send_faults old back.value) back.cause c.opening_end.result
-    (unopened_over view left sent g.met.W.World.beside_left g.met.W.World.beside_sent old back.value back.cause e.opens.beside_is e.opens e.cause e.a_store) c.opening_end.ensures
+    unloaded c.args.name.now (view old) (view back.value)
+    (traffic left sent g.W.Streams.read_faults g.W.Streams.send_faults old back.value) back.cause c.opening_end.result
+    (unopened_over view left sent g.met.W.World.beside_left g.met.W.World.beside_sent old back.value back.cause e.opens.beside_is e.opens
+    e.cause e.a_store) c.opening_end.ensures
 
 pub returns-in-Ok-answer-clause-away : goal.returns-in-Ok-answer-clause-away
 returns-in-Ok-answer-clause-away g c = away_never _ _ c.in-Ok.ensures.large
@@ -78,7 +92,8 @@ returns-in-Err-answer-clause-away g c = away_never _ _ c.in-Ok.ensures.large
 
 pub returns-in-Err-clause-away : goal.returns-in-Err-clause-away
 returns-in-Err-clause-away g c =
-    away_over g.W.Disk.view g.W.Streams.left g.W.Streams.sent g.met.W.World.beside_left g.met.W.World.beside_sent c.args.world c.in-Err.field-0.value c.in-Err.field-0.cause c.in-Err.ensures.opens.beside_is (status_of c.opening_end.result)
+    away_over g.W.Disk.view g.W.Streams.left g.W.Streams.sent g.met.W.World.beside_left g.met.W.World.beside_sent c.args.world
+    c.in-Err.field-0.value c.in-Err.field-0.cause c.in-Err.ensures.opens.beside_is (status_of c.opening_end.result)
     (ap (λ (e : End). status_of e) c.opening_end.ensures) c.in-Err.ensures.cause
 
 pub returns-in-Ok-answer-clause-holds : goal.returns-in-Ok-answer-clause-holds
@@ -96,11 +111,16 @@ returns-in-Ok-answer-clause-holds g c = λ other.
     let new = c.send_text.result.1 in
     let readings = c.in-Ok-answer.readings in
     let e = c.in-Ok.ensures in
-    let s = stores_on name opened.count (view old) (view opened.disk) (view mid) (traffic left sent reads sends old mid) (traffic left sent reads sends opened.disk mid) c.load_store-answer.result.0 (Ok readings) e.count c.in-Ok-answer.is e.opens e.quiet (opened_book opened.count (view old) (view opened.disk) e.pages)
-    (traffic_over view left sent reads sends w.beside_left w.beside_sent w.beside_read_faults w.beside_send_faults old opened.disk mid e.opens.beside_is) c.load_store-answer.ensures.stores in
+    let s = stores_on name opened.count (view old) (view opened.disk) (view mid) (traffic left sent reads sends old mid)
+    (traffic left sent reads sends opened.disk mid) c.load_store-answer.result.0 (Ok readings) e.count c.in-Ok-answer.is e.opens e.quiet
+    (opened_book opened.count (view old) (view opened.disk) e.pages)
+    (traffic_over view left sent reads sends w.beside_left w.beside_sent w.beside_read_faults w.beside_send_faults old opened.disk mid
+    e.opens.beside_is) c.load_store-answer.ensures.stores in
     let text = c.send_text.ensures.sends (loaded_text readings) c.loaded_text.ensures in
-    again_sent (page_count (view old).size) (view old) (view mid) (view new) (λ count. (sent_now (view mid) ≤ count) × (count ≤ sent_now (view new))) text.kept text.time
-    (again_loaded name (page_count (view old).size) (view old) (view mid) (traffic left sent reads sends old mid) (Ok readings) (λ is. cc) s)
+    again_sent (page_count (view old).size) (view old) (view mid) (view new) (λ count. (sent_now (view mid) ≤ count)
+    × (count ≤ sent_now (view new))) text.kept text.time
+    (again_loaded name (page_count (view old).size) (view old) (view mid) (traffic left sent reads sends old mid) (Ok readings)
+    (λ is. cc) s)
 
 pub returns-in-Err-answer-clause-holds : goal.returns-in-Err-answer-clause-holds
 returns-in-Err-answer-clause-holds g c = λ other.
@@ -116,12 +136,17 @@ returns-in-Err-answer-clause-holds g c = λ other.
     let new = c.load_store-answer.result.1 in
     let end = c.in-Err-answer.end in
     let e = c.in-Ok.ensures in
-    let s = stores_on name opened.count (view old) (view opened.disk) (view new) (traffic left sent reads sends old new) (traffic left sent reads sends opened.disk new) c.load_store-answer.result.0 (Err end) e.count c.in-Err-answer.is e.opens e.quiet (opened_book opened.count (view old) (view opened.disk) e.pages)
-    (traffic_over view left sent reads sends w.beside_left w.beside_sent w.beside_read_faults w.beside_send_faults old opened.disk new e.opens.beside_is) c.load_store-answer.ensures.stores in
-    again_loaded name (page_count (view old).size) (view old) (view new) (traffic left sent reads sends old new) (Err end) (λ is. other (err_same end DiskFault is)) s
+    let s = stores_on name opened.count (view old) (view opened.disk) (view new) (traffic left sent reads sends old new)
+    (traffic left sent reads sends opened.disk new) c.load_store-answer.result.0 (Err end) e.count c.in-Err-answer.is e.opens e.quiet
+    (opened_book opened.count (view old) (view opened.disk) e.pages)
+    (traffic_over view left sent reads sends w.beside_left w.beside_sent w.beside_read_faults w.beside_send_faults old opened.disk new
+    e.opens.beside_is) c.load_store-answer.ensures.stores in
+    again_loaded name (page_count (view old).size) (view old) (view new) (traffic left sent reads sends old new) (Err end)
+    (λ is. other (err_same end DiskFault is)) s
 
 pub returns-in-Err-clause-holds : goal.returns-in-Err-clause-holds
-returns-in-Err-clause-holds g c = λ other. again_opened (g.W.Disk.view c.args.world) (g.W.Disk.view c.in-Err.field-0.value) c.in-Err.ensures.opens
+returns-in-Err-clause-holds g c = λ other. again_opened (g.W.Disk.view c.args.world)
+    (g.W.Disk.view c.in-Err.field-0.value) c.in-Err.ensures.opens
 
 pub returns-in-Ok-answer-clause-faults : goal.returns-in-Ok-answer-clause-faults
 returns-in-Ok-answer-clause-faults g c =
@@ -132,7 +157,8 @@ returns-in-Ok-answer-clause-faults g c =
     let new = view c.send_text.result.1 in
     let e = c.in-Ok.ensures in
     let P : Result ℕ End → Type 0 = λ r. CountsFault (fault_in end_fault r) start mid in
-    let answered = counts_then None old start mid (counts_no_disk old start e.opens.beside_is e.quiet) (subst P c.in-Ok-answer.is c.load_store-answer.ensures.faults) in
+    let answered = counts_then None old start mid (counts_no_disk old start e.opens.beside_is e.quiet)
+    (subst P c.in-Ok-answer.is c.load_store-answer.ensures.faults) in
     counts_then (end_fault c.send_text.result.0) old mid new answered c.send_text.ensures.faults
 
 pub returns-in-Err-answer-clause-faults : goal.returns-in-Err-answer-clause-faults
@@ -144,11 +170,13 @@ returns-in-Err-answer-clause-faults g c =
     let end = c.in-Err-answer.end in
     let e = c.in-Ok.ensures in
     let P : Result ℕ End → Type 0 = λ r. CountsFault (fault_in end_fault r) start new in
-    counts_then (end_fault end) old start new (counts_no_disk old start e.opens.beside_is e.quiet) (subst P c.in-Err-answer.is c.load_store-answer.ensures.faults)
+    counts_then (end_fault end) old start new (counts_no_disk old start e.opens.beside_is e.quiet)
+    (subst P c.in-Err-answer.is c.load_store-answer.ensures.faults)
 
 pub returns-in-Err-clause-faults : goal.returns-in-Err-clause-faults
 returns-in-Err-clause-faults g c =
     let view = g.W.Disk.view in
     let back = c.in-Err.field-0 in
     let e = c.in-Err.ensures in
-    counts_unopened_end back.cause c.opening_end.result (view c.args.world) (view back.value) c.opening_end.ensures e.opens.beside_is e.cause e.quiet_err
+    counts_unopened_end back.cause c.opening_end.result (view c.args.world)
+    (view back.value) c.opening_end.ensures e.opens.beside_is e.cause e.quiet_err

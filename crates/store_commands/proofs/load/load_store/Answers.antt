@@ -36,18 +36,30 @@ returns-clause-stores g c =
     let closed : answer ≢ Err DiskFault → IsClosed (view new) =
     λ other.
     let P : g.row.W.Denot → Type 0 = λ d. IsClosed (view d) in
-    subst P c.disk_of.ensures.disk (c.disk_of.ensures.rests (sound_after answer (pages_view end_pages.count end_pages.sound (view new)) made.sound made.sound_for other)) in
-    let all = stores_by name pages.count end_pages.count pages.sound end_pages.sound (view disk) (view new) (traffic left sent reads sends disk new) made.goes.size made.goes.is_told made.goes.goes_on
-    (rests_new pages.count (view disk) (shown.numbers before) (pages.at_rest c.requires) (before.space.spelled c.requires)) answer (shown.total before)
+    subst P c.disk_of.ensures.disk (c.disk_of.ensures.rests
+    (sound_after answer (pages_view end_pages.count end_pages.sound (view new)) made.sound made.sound_for other)) in
+    let all = stores_by name pages.count end_pages.count pages.sound end_pages.sound (view disk) (view new)
+    (traffic left sent reads sends disk new) made.goes.size made.goes.is_told made.goes.goes_on
+    (rests_new pages.count (view disk) (shown.numbers before) (pages.at_rest c.requires) (before.space.spelled c.requires)) answer
+    (shown.total before)
     made.outcome made.unknown
-    (λ is. lacks_record pages.count (view disk) (shown.numbers before) name (rests_new pages.count (view disk) (shown.numbers before) (pages.at_rest c.requires) (before.space.spelled c.requires))
+    (λ is. lacks_record pages.count (view disk) (shown.numbers before) name
+    (rests_new pages.count (view disk) (shown.numbers before) (pages.at_rest c.requires) (before.space.spelled c.requires))
     (λ honest. record { spelled = before.space.spelled c.requires honest; rules = before.space.rules })
-    (λ honest. no_record (pages_of pages.count (view disk).image) (shown.numbers before) (shown.catalog before) name before.count (before.told c.requires honest) (made.lacks is)))
-    (line_by pages.count (view disk) (shown.numbers before) (shown.catalog before) name (rests_new pages.count (view disk) (shown.numbers before) (pages.at_rest c.requires) (before.space.spelled c.requires))
-    (λ honest. record { spelled = before.space.spelled c.requires honest; rules = before.space.rules }) before.count (before.told c.requires) (left disk) answer made.line)
-    (read_by pages.count (view disk) (shown.numbers before) (shown.catalog before) name (rests_new pages.count (view disk) (shown.numbers before) (pages.at_rest c.requires) (before.space.spelled c.requires))
-    (λ honest. record { spelled = before.space.spelled c.requires honest; rules = before.space.rules }) before.count (before.told c.requires) (left disk) answer made.read)
-    (read_on answer (left disk) (left new) made.within made.whole) made.long (omega (arith, before.space.rules.total_high, made.goes.size)) made.cause closed (λ is. let same = store_disk after before (made.untouched is) in (ap view same, ap left same)) made.goes.sent_is made.goes.sends made.goes.faults in
+    (λ honest. no_record (pages_of pages.count (view disk).image) (shown.numbers before) (shown.catalog before) name before.count
+    (before.told c.requires honest) (made.lacks is)))
+    (line_by pages.count (view disk) (shown.numbers before) (shown.catalog before) name
+    (rests_new pages.count (view disk) (shown.numbers before) (pages.at_rest c.requires) (before.space.spelled c.requires))
+    (λ honest. record { spelled = before.space.spelled c.requires honest; rules = before.space.rules }) before.count
+    (before.told c.requires) (left disk) answer made.line)
+    (read_by pages.count (view disk) (shown.numbers before) (shown.catalog before) name
+    (rests_new pages.count (view disk) (shown.numbers before) (pages.at_rest c.requires) (before.space.spelled c.requires))
+    (λ honest. record { spelled = before.space.spelled c.requires honest; rules = before.space.rules }) before.count
+    (before.told c.requires) (left disk) answer made.read)
+    (read_on answer (left disk) (left new) made.within made.whole) made.long
+    (omega (arith, before.space.rules.total_high, made.goes.size)) made.cause closed
+    (λ is. let same = store_disk after before (made.untouched is) in
+    (ap view same, ap left same)) made.goes.sent_is made.goes.sends made.goes.faults in
     let D : g.row.W.Denot → Type 0 = λ d. Stores name pages.count (view disk) (view d) (traffic left sent reads sends disk d) answer in
     subst D (sym c.disk_of.ensures.disk) all
 
@@ -62,9 +74,13 @@ returns-clause-costs g c =
     let new = end_pages.disk in
     let made = c.load-answer.ensures in
     let name = c.args.name.now in
-    let all = costs_by name pages.count end_pages.count pages.sound end_pages.sound (view disk) (view new) (traffic left g.W.Streams.sent g.W.Streams.read_faults g.W.Streams.send_faults disk new) made.goes.size made.goes.is_told made.goes.goes_on
-    (rests_new pages.count (view disk) (shown.numbers before) (pages.at_rest c.requires) (before.space.spelled c.requires)) c.load-answer.result made.outcome in
-    let D : g.row.W.Denot → Type 0 = λ d. OfSeries pages.count (view disk) name (λ total book series. CostsFirst series (left disk) (view disk) (view d)) in
+    let all = costs_by name pages.count end_pages.count pages.sound end_pages.sound (view disk) (view new)
+    (traffic left g.W.Streams.sent g.W.Streams.read_faults g.W.Streams.send_faults disk new) made.goes.size made.goes.is_told
+    made.goes.goes_on
+    (rests_new pages.count (view disk) (shown.numbers before) (pages.at_rest c.requires) (before.space.spelled c.requires))
+    c.load-answer.result made.outcome in
+    let D : g.row.W.Denot → Type 0 = λ d. OfSeries pages.count (view disk) name
+    (λ total book series. CostsFirst series (left disk) (view disk) (view d)) in
     subst D (sym c.disk_of.ensures.disk) all
 
 pub returns-clause-faults : goal.returns-clause-faults

@@ -14,7 +14,8 @@ returns-in-Ok-send-clause-faults g c =
     let old = c.args.world in
     let new = c.send.new.self in
     let e = c.send.ensures in
-    counts_kept view g.W.Streams.read_faults g.W.Streams.send_faults w.beside_read_faults w.beside_send_faults old new (w.send_keeps _ old new e.beside) e.read_faults c.in-Ok-send.ensures.quiet
+    counts_kept view g.W.Streams.read_faults g.W.Streams.send_faults w.beside_read_faults w.beside_send_faults old new
+    (w.send_keeps _ old new e.beside) e.read_faults c.in-Ok-send.ensures.quiet
 
 pub returns-clause-faults : goal.returns-clause-faults
 returns-clause-faults g c =
@@ -23,4 +24,5 @@ returns-clause-faults g c =
     let old = c.args.world in
     let new = c.send.new.self in
     let e = c.send.ensures in
-    counts_unsent view g.W.Streams.read_faults g.W.Streams.send_faults w.beside_read_faults w.beside_send_faults old new (w.send_keeps _ old new e.beside) e.read_faults c.in-Err.ensures.cause
+    counts_unsent view g.W.Streams.read_faults g.W.Streams.send_faults w.beside_read_faults w.beside_send_faults old new
+    (w.send_keeps _ old new e.beside) e.read_faults c.in-Err.ensures.cause

@@ -14,7 +14,8 @@ loop-p-init g c =
     let under = g.P.Pages.under c.args.pages.now in
     record {
       whole = c.renew_first.ensures.whole;
-      gathered = gathered_first told (c.args.page.now ≡ view.image 0) view under under c.renew_first.new.page c.args.page.now (entries c.in_ok-batch.batch) (entries c.put.new.self) (goes_none under) c.renew_first.ensures.page (λ is. is)
+      gathered = gathered_first told (c.args.page.now ≡ view.image 0) view under under c.renew_first.new.page c.args.page.now
+          (entries c.in_ok-batch.batch) (entries c.put.new.self) (goes_none under) c.renew_first.ensures.page (λ is. is)
           c.in_ok-batch.ensures c.put.ensures.page c.put.ensures.len;
       same = refl;
     }
@@ -30,8 +31,10 @@ loop-p-preserved g c =
     let e = c.in_ok-new_page.ensures in
     record {
       whole = c.new_page.ensures.whole;
-      gathered = gathered_more (told old) (told mid) (told new) (c.args.page.now ≡ (view old).image 0) (view old) (view mid) (view new) (under old) (under mid) (under new) c.new_page.new.page (entries c.loop-p.batch) (entries c.put-in-loop-p.new.self) c.loop-p.p
-          (omega arith) (omega arith) c.loop-p.invariant.gathered c.new_page.ensures.reads c.new_page.ensures.goes_on e.kept e.page c.put-in-loop-p.ensures.page c.put-in-loop-p.ensures.len;
+      gathered = gathered_more (told old) (told mid) (told new) (c.args.page.now ≡ (view old).image 0) (view old) (view mid) (view new)
+          (under old) (under mid) (under new) c.new_page.new.page (entries c.loop-p.batch) (entries c.put-in-loop-p.new.self) c.loop-p.p
+          (omega arith) (omega arith) c.loop-p.invariant.gathered c.new_page.ensures.reads c.new_page.ensures.goes_on e.kept e.page
+          c.put-in-loop-p.ensures.page c.put-in-loop-p.ensures.len;
       same = e.quiet ∙ c.loop-p.invariant.same;
     }
 
@@ -57,7 +60,8 @@ returns-in_err-new_page-clause-looks g c =
 pub returns-in_err-new_page-clause-goes_on : goal.returns-in_err-new_page-clause-goes_on
 returns-in_err-new_page-clause-goes_on g c =
     let under = g.P.Pages.under in
-    goes_then (under c.args.pages.now) (under c.loop-p.pages) (under c.new_page.new.pages) c.loop-p.invariant.gathered.goes_on c.new_page.ensures.goes_on
+    goes_then (under c.args.pages.now) (under c.loop-p.pages)
+    (under c.new_page.new.pages) c.loop-p.invariant.gathered.goes_on c.new_page.ensures.goes_on
 
 pub returns-clause-looks : goal.returns-clause-looks
 returns-clause-looks g c =
@@ -65,7 +69,8 @@ returns-clause-looks g c =
     let told = g.P.Pages.told in
     let old = c.args.pages.now in
     let new = c.loop-p.pages in
-    looks_more (c.loop-p.p - 1) 16 (told old) (told new) (view old) (view new) (omega (arith, c.loop-p.auto.p-end)) c.loop-p.invariant.gathered.looks
+    looks_more (c.loop-p.p - 1) 16 (told old) (told new) (view old) (view new)
+    (omega (arith, c.loop-p.auto.p-end)) c.loop-p.invariant.gathered.looks
 
 pub returns-clause-goes_on : goal.returns-clause-goes_on
 returns-clause-goes_on g c = c.loop-p.invariant.gathered.goes_on

@@ -11,6 +11,7 @@ invariant-loop-p g l =
     let under = g.P.Pages.under in
     record {
       whole : IsBlock l.page;
-      gathered : AreGathered (told l.fn.pages) (told l.pages) (l.fn.page ≡ (view l.fn.pages).image 0) (view l.fn.pages) (view l.pages) (under l.fn.pages) (under l.pages) (entries l.batch) l.p;
+      gathered : AreGathered (told l.fn.pages) (told l.pages) (l.fn.page ≡ (view l.fn.pages).image 0) (view l.fn.pages) (view l.pages)
+          (under l.fn.pages) (under l.pages) (entries l.batch) l.p;
       same : (view l.pages).faults ≡ (view l.fn.pages).faults;
     }

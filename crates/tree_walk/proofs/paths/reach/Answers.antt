@@ -26,7 +26,8 @@ returns-then-is_near-clause-held g c = c.requires.held
 pub returns-then-is_near-clause-leads : goal.returns-then-is_near-clause-leads
 returns-then-is_near-clause-leads g c =
     let trail = c.args.trail.now in
-    near_leads_any c.args.tree trail.pages.items trail.len c.args.key c.args.last c.requires.key (c.is_near.ensures c.if-is_near.true) c.requires.leads
+    near_leads_any c.args.tree trail.pages.items trail.len c.args.key c.args.last c.requires.key
+    (c.is_near.ensures c.if-is_near.true) c.requires.leads
 
 pub returns-clause-kept : goal.returns-clause-kept
 returns-clause-kept g c = c.descend.ensures.kept
@@ -43,7 +44,8 @@ returns-clause-held g c = c.descend.ensures.held
 pub returns-clause-one_read : goal.returns-clause-one_read
 returns-clause-one_read g c =
     let trail = c.args.trail.now in
-    asked_reads c.args.tree trail.pages.items trail.len c.args.last c.args.key (walk.pages c.args.space.now).reads (walk.pages c.descend.new.space).reads c.requires.leads c.descend.ensures.one_read c.descend.ensures.top_read
+    asked_reads c.args.tree trail.pages.items trail.len c.args.last c.args.key (walk.pages c.args.space.now).reads
+    (walk.pages c.descend.new.space).reads c.requires.leads c.descend.ensures.one_read c.descend.ensures.top_read
 
 pub returns-clause-reads : goal.returns-clause-reads
 returns-clause-reads g c = c.descend.ensures.reads

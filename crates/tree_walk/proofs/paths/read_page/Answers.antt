@@ -12,7 +12,8 @@ use Rattle.page_space.specs.Shown as shown
 use Rattle.tree_walk.proofs.paths.read_page.Goals as goal
 
 -- a read, on the pages that page 0 tells
-reads_shown : (before after : Superblock) (told told' : Type 0) (old new : View) → after ≡ before → Reads told told' old new → Reads told told' (space_view before old) (space_view after new)
+reads_shown : (before after : Superblock) (told told' : Type 0) (old new : View) → after ≡ before → Reads told told' old new
+    → Reads told told' (space_view before old) (space_view after new)
 reads_shown before after told told' old new same reads = record {
   time = record {
     later = reads.time.later;
@@ -48,7 +49,8 @@ pub returns-in_default-clause-reads : goal.returns-in_default-clause-reads
 returns-in_default-clause-reads g c =
     let old = c.args.space.now in
     let new = c.get_tree.new.self in
-    reads_shown (shown.numbers old) (shown.numbers new) (shown.IsTold old) (shown.IsTold new) (shown.view old) (shown.view new) c.get_tree.ensures.superblock c.get_tree.ensures.reads
+    reads_shown (shown.numbers old) (shown.numbers new) (shown.IsTold old) (shown.IsTold new) (shown.view old)
+    (shown.view new) c.get_tree.ensures.superblock c.get_tree.ensures.reads
 
 pub returns-in_default-clause-over : goal.returns-in_default-clause-over
 returns-in_default-clause-over g c = record { superblock = c.get_tree.ensures.superblock; goes_on = c.get_tree.ensures.goes_on }
@@ -60,7 +62,8 @@ pub returns-then-not-is_tree_page-clause-reads : goal.returns-then-not-is_tree_p
 returns-then-not-is_tree_page-clause-reads g c =
     let old = c.args.space.now in
     let new = c.get_tree.new.self in
-    reads_shown (shown.numbers old) (shown.numbers new) (shown.IsTold old) (shown.IsTold new) (shown.view old) (shown.view new) c.get_tree.ensures.superblock c.get_tree.ensures.reads
+    reads_shown (shown.numbers old) (shown.numbers new) (shown.IsTold old) (shown.IsTold new) (shown.view old)
+    (shown.view new) c.get_tree.ensures.superblock c.get_tree.ensures.reads
 
 pub returns-then-not-is_tree_page-clause-over : goal.returns-then-not-is_tree_page-clause-over
 returns-then-not-is_tree_page-clause-over g c = record { superblock = c.get_tree.ensures.superblock; goes_on = c.get_tree.ensures.goes_on }
@@ -72,7 +75,8 @@ pub returns-clause-reads : goal.returns-clause-reads
 returns-clause-reads g c =
     let old = c.args.space.now in
     let new = c.get_tree.new.self in
-    reads_shown (shown.numbers old) (shown.numbers new) (shown.IsTold old) (shown.IsTold new) (shown.view old) (shown.view new) c.get_tree.ensures.superblock c.get_tree.ensures.reads
+    reads_shown (shown.numbers old) (shown.numbers new) (shown.IsTold old) (shown.IsTold new) (shown.view old)
+    (shown.view new) c.get_tree.ensures.superblock c.get_tree.ensures.reads
 
 pub returns-clause-over : goal.returns-clause-over
 returns-clause-over g c = record { superblock = c.get_tree.ensures.superblock; goes_on = c.get_tree.ensures.goes_on }

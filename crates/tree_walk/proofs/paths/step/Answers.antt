@@ -13,7 +13,8 @@ pub next_page-requires-clause-keeps : goal.next_page-requires-clause-keeps
 next_page-requires-clause-keeps g c =
     let trail = c.args.trail.now in
     let P : List ℕ → Type 0 = λ b. KeepsLayout b in
-    subst P (bytes_are trail.pages.items c.args.depth c.index.result.now (omega (arith, trail.room, trail.few, c.requires.reached)) c.index.ensures)
+    subst P (bytes_are trail.pages.items c.args.depth c.index.result.now
+    (omega (arith, trail.room, trail.few, c.requires.reached)) c.index.ensures)
     (c.requires.held c.args.depth c.requires.reached).keeps
 
 pub returns-in_err-number-clause-reads : goal.returns-in_err-number-clause-reads
@@ -49,16 +50,21 @@ returns-in_err-number-clause-cause g c =
     let page = c.index.result.now in
     let within : c.args.depth < length trail.pages.items = omega (arith, trail.room, trail.few, c.requires.reached) in
     error_so _ _ c.from_residual.result c.from_residual.ensures.1
-    (λ e is. step_none (shown.IsTold c.args.space.now) (walk.pages c.args.space.now) (walk.pages c.args.space.now) trail.pages.items c.args.key c.args.levels c.args.depth
-    page.number c.path_child-child.result c.total.result page.bytes.items e (number_is trail.pages.items c.args.depth page within c.index.ensures) (bytes_are trail.pages.items c.args.depth page within c.index.ensures)
-    c.path_child-child.ensures.child c.total.ensures.total (c.requires.held c.args.depth c.requires.reached).below c.in_err-number.ensures.missing (is ∙ c.in_err-number.ensures.names))
+    (λ e is. step_none (shown.IsTold c.args.space.now) (walk.pages c.args.space.now)
+    (walk.pages c.args.space.now) trail.pages.items c.args.key c.args.levels c.args.depth
+    page.number c.path_child-child.result c.total.result page.bytes.items e
+    (number_is trail.pages.items c.args.depth page within c.index.ensures)
+    (bytes_are trail.pages.items c.args.depth page within c.index.ensures)
+    c.path_child-child.ensures.child c.total.ensures.total
+    (c.requires.held c.args.depth c.requires.reached).below c.in_err-number.ensures.missing (is ∙ c.in_err-number.ensures.names))
 
 pub returns-clause-hit : goal.returns-clause-hit
 returns-clause-hit g c = λ long linked.
     let trail = c.args.trail.now in
     let page = c.index.result.now in
     let bytes = bytes_are trail.pages.items c.args.depth page (omega (arith, trail.room, trail.few, c.requires.reached)) c.index.ensures in
-    let next = next_is trail.pages.items c.args.key c.args.levels c.args.depth c.in_ok-number.number c.path_child-child.result page.bytes.items bytes c.path_child-child.ensures.child c.in_ok-number.ensures.number in
+    let next = next_is trail.pages.items c.args.key c.args.levels c.args.depth c.in_ok-number.number c.path_child-child.result
+    page.bytes.items bytes c.path_child-child.ensures.child c.in_ok-number.ensures.number in
     c.hold.ensures.hit (linked_hit trail c.args.key c.args.levels c.args.depth c.in_ok-number.number long linked next)
 
 pub returns-clause-still : goal.returns-clause-still
@@ -66,7 +72,8 @@ returns-clause-still g c = λ long linked.
     let trail = c.args.trail.now in
     let page = c.index.result.now in
     let bytes = bytes_are trail.pages.items c.args.depth page (omega (arith, trail.room, trail.few, c.requires.reached)) c.index.ensures in
-    let next = next_is trail.pages.items c.args.key c.args.levels c.args.depth c.in_ok-number.number c.path_child-child.result page.bytes.items bytes c.path_child-child.ensures.child c.in_ok-number.ensures.number in
+    let next = next_is trail.pages.items c.args.key c.args.levels c.args.depth c.in_ok-number.number c.path_child-child.result
+    page.bytes.items bytes c.path_child-child.ensures.child c.in_ok-number.ensures.number in
     c.hold.ensures.still (linked_hit trail c.args.key c.args.levels c.args.depth c.in_ok-number.number long linked next)
 
 pub returns-clause-linked : goal.returns-clause-linked
@@ -74,9 +81,11 @@ returns-clause-linked g c =
     let trail = c.args.trail.now in
     let page = c.index.result.now in
     let bytes = bytes_are trail.pages.items c.args.depth page (omega (arith, trail.room, trail.few, c.requires.reached)) c.index.ensures in
-    let next = next_is trail.pages.items c.args.key c.args.levels c.args.depth c.in_ok-number.number c.path_child-child.result page.bytes.items bytes c.path_child-child.ensures.child c.in_ok-number.ensures.number in
+    let next = next_is trail.pages.items c.args.key c.args.levels c.args.depth c.in_ok-number.number c.path_child-child.result
+    page.bytes.items bytes c.path_child-child.ensures.child c.in_ok-number.ensures.number in
     on_ok_weaker c.hold.result
-    (λ hit. hit_linked trail c.hold.new.trail c.args.key c.args.levels c.args.depth c.in_ok-number.number c.hold.ensures.above next c.in_ok-number.ensures.there hit)
+    (λ hit. hit_linked trail c.hold.new.trail c.args.key c.args.levels c.args.depth c.in_ok-number.number c.hold.ensures.above next
+    c.in_ok-number.ensures.there hit)
     c.hold.ensures.reached
 
 pub returns-clause-cause : goal.returns-clause-cause
@@ -84,8 +93,10 @@ returns-clause-cause g c =
     let trail = c.args.trail.now in
     let page = c.index.result.now in
     let bytes = bytes_are trail.pages.items c.args.depth page (omega (arith, trail.room, trail.few, c.requires.reached)) c.index.ensures in
-    let next = next_is trail.pages.items c.args.key c.args.levels c.args.depth c.in_ok-number.number c.path_child-child.result page.bytes.items bytes c.path_child-child.ensures.child c.in_ok-number.ensures.number in
+    let next = next_is trail.pages.items c.args.key c.args.levels c.args.depth c.in_ok-number.number c.path_child-child.result
+    page.bytes.items bytes c.path_child-child.ensures.child c.in_ok-number.ensures.number in
     IfErr-weaker c.hold.result _ _
-    (λ e cause. step_bad (shown.IsTold c.args.space.now) (walk.pages c.args.space.now) (walk.pages c.hold.new.space) trail.pages.items c.args.key c.args.levels c.args.depth
+    (λ e cause. step_bad (shown.IsTold c.args.space.now) (walk.pages c.args.space.now)
+    (walk.pages c.hold.new.space) trail.pages.items c.args.key c.args.levels c.args.depth
     c.in_ok-number.number e next c.in_ok-number.ensures.there (omega (arith, c.in_ok-number.ensures.below, c.total.ensures.total)) cause)
     c.hold.ensures.cause

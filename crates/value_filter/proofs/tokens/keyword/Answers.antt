@@ -1,4 +1,6 @@
-use Rattle.value_filter.proofs.Keywords.{past-1, this-1, past-2, this-2, past-3, this-3, past-4, this-4, past-5, this-5, past-6, this-6, past-7, this-7, past-8, this-8, past-9, this-9, past-10, this-10, past-11, this-11, past-12, this-12, past-13, this-13, none-13}
+use Rattle.value_filter.proofs.Keywords.{past-1, this-1, past-2, this-2, past-3, this-3, past-4, this-4, past-5, this-5, past-6, this-6}
+use Rattle.value_filter.proofs.Keywords.{past-7, this-7, past-8, this-8, past-9, this-9, past-10, this-10, past-11, this-11, past-12}
+use Rattle.value_filter.proofs.Keywords.{this-12, past-13, this-13, none-13}
 use Rattle.value_filter.proofs.tokens.keyword.Goals as goal
 
 pub returns-then-eq : goal.returns-then-eq

@@ -12,7 +12,8 @@ pub loop-x-init : goal.loop-x-init
 loop-x-init c = no_column (λ a b. InArea c.args.area a (pos b)) c.args.area.left c.args.bitmap.now (λ x y h. h.from)
 
 -- a column of the rectangle
-in_column : (area : Area) (at : ℕ) → area.left ≤ at → at ≤ area.right → (x y : ℕ) → InFill at area.low area.high x (pos y) ↔ (InArea area x (pos y) × (x ≡ at))
+in_column : (area : Area) (at : ℕ) → area.left ≤ at → at ≤ area.right → (x y : ℕ)
+    → InFill at area.low area.high x (pos y) ↔ (InArea area x (pos y) × (x ≡ at))
 in_column area at from to x y = (
   (λ h. (record { from = omega (arith, from, h.here); to = omega (arith, to, h.here); above = h.above; below = h.below }, h.here)),
   (λ h. record { here = h.1; above = h.0.above; below = h.0.below }),
@@ -32,4 +33,5 @@ loop-x-preserved c =
     (λ x y column row. in_column c.args.area c.loop-x.x c.loop-x.auto.x (omega (arith, c.loop-x-test.true)) x y)
 
 pub returns : goal.returns
-returns c = last_column (λ a b. InArea c.args.area a (pos b)) c.loop-x.x _ _ c.loop-x.invariant (λ x y h. omega (arith, h.to, c.loop-x-test.false))
+returns c = last_column (λ a b. InArea c.args.area a (pos b)) c.loop-x.x _ _ c.loop-x.invariant
+    (λ x y h. omega (arith, h.to, c.loop-x-test.false))

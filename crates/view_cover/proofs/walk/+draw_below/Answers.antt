@@ -22,8 +22,10 @@ returns-in_default-clause-last g t c =
       first = c.ranges_hold_those_below.ensures.first;
       last = c.ranges_hold_those_below.ensures.end;
     }) in
-    let reached : IsReached (scene_of c.args.scope.now (g.T.Teller.told c.args.teller.now)) c.args.key None = reached-as (scene_of c.args.scope.now (g.T.Teller.told c.args.teller.now)) c.args.key c.args.span None c.in_default.is c.requires.reached in
-    last-free by (scene_of c.args.scope.now (g.T.Teller.told c.args.teller.now)) c.args.key None c.args.last reached (empty-free by (scene_of c.args.scope.now (g.T.Teller.told c.args.teller.now)) c.args.key reached) c.requires.last
+    let reached : IsReached (scene_of c.args.scope.now (g.T.Teller.told c.args.teller.now)) c.args.key None = reached-as
+    (scene_of c.args.scope.now (g.T.Teller.told c.args.teller.now)) c.args.key c.args.span None c.in_default.is c.requires.reached in
+    last-free by (scene_of c.args.scope.now (g.T.Teller.told c.args.teller.now)) c.args.key None c.args.last reached
+    (empty-free by (scene_of c.args.scope.now (g.T.Teller.told c.args.teller.now)) c.args.key reached) c.requires.last
 
 pub returns-in_default-clause-drawn : goal.returns-in_default-clause-drawn
 returns-in_default-clause-drawn g t c =
@@ -36,8 +38,11 @@ returns-in_default-clause-drawn g t c =
       first = c.ranges_hold_those_below.ensures.first;
       last = c.ranges_hold_those_below.ensures.end;
     }) in
-    let reached : IsReached (scene_of c.args.scope.now (g.T.Teller.told c.args.teller.now)) c.args.key None = reached-as (scene_of c.args.scope.now (g.T.Teller.told c.args.teller.now)) c.args.key c.args.span None c.in_default.is c.requires.reached in
-    part-free (scene_of c.args.scope.now (g.T.Teller.told c.args.teller.now)) (first_slot c.args.key) (end_slot c.args.key) c.args.bitmap.now (empty-free by (scene_of c.args.scope.now (g.T.Teller.told c.args.teller.now)) c.args.key reached)
+    let reached : IsReached (scene_of c.args.scope.now (g.T.Teller.told c.args.teller.now)) c.args.key None = reached-as
+    (scene_of c.args.scope.now (g.T.Teller.told c.args.teller.now)) c.args.key c.args.span None c.in_default.is c.requires.reached in
+    part-free (scene_of c.args.scope.now (g.T.Teller.told c.args.teller.now)) (first_slot c.args.key)
+    (end_slot c.args.key) c.args.bitmap.now (empty-free by
+    (scene_of c.args.scope.now (g.T.Teller.told c.args.teller.now)) c.args.key reached)
 
 pub columns_of-requires : goal.columns_of-requires
 columns_of-requires g t c = key_small c.args.scope.now.axis.slots c.args.key c.requires.reached.key
@@ -53,7 +58,9 @@ returns-in_default-columns_of-clause-last g t c =
       first = c.ranges_hold_those_below.ensures.first;
       last = c.ranges_hold_those_below.ensures.end;
     }) in
-    last-free by (scene_of c.args.scope.now (g.T.Teller.told c.args.teller.now)) c.args.key c.args.span c.args.last c.requires.reached (undrawn-free by (scene_of c.args.scope.now (g.T.Teller.told c.args.teller.now)) c.args.key c.args.span c.requires.reached c.in_default-columns_of.ensures.none) c.requires.last
+    last-free by (scene_of c.args.scope.now (g.T.Teller.told c.args.teller.now)) c.args.key c.args.span c.args.last c.requires.reached
+    (undrawn-free by (scene_of c.args.scope.now (g.T.Teller.told c.args.teller.now)) c.args.key c.args.span c.requires.reached
+    c.in_default-columns_of.ensures.none) c.requires.last
 
 pub returns-in_default-columns_of-clause-drawn : goal.returns-in_default-columns_of-clause-drawn
 returns-in_default-columns_of-clause-drawn g t c =
@@ -66,33 +73,52 @@ returns-in_default-columns_of-clause-drawn g t c =
       first = c.ranges_hold_those_below.ensures.first;
       last = c.ranges_hold_those_below.ensures.end;
     }) in
-    part-free (scene_of c.args.scope.now (g.T.Teller.told c.args.teller.now)) (first_slot c.args.key) (end_slot c.args.key) c.args.bitmap.now (undrawn-free by (scene_of c.args.scope.now (g.T.Teller.told c.args.teller.now)) c.args.key c.args.span c.requires.reached c.in_default-columns_of.ensures.none)
+    part-free (scene_of c.args.scope.now (g.T.Teller.told c.args.teller.now)) (first_slot c.args.key)
+    (end_slot c.args.key) c.args.bitmap.now (undrawn-free by
+    (scene_of c.args.scope.now (g.T.Teller.told c.args.teller.now)) c.args.key c.args.span c.requires.reached
+    c.in_default-columns_of.ensures.none)
 
 pub halves_of-requires-clause-reached : goal.halves_of-requires-clause-reached
-halves_of-requires-clause-reached g t c = reached-as (scene_of c.args.scope.now (g.T.Teller.told c.args.teller.now)) c.args.key c.args.span (Some c.in-Some.span) c.in-Some.is c.requires.reached
+halves_of-requires-clause-reached g t c = reached-as (scene_of c.args.scope.now (g.T.Teller.told c.args.teller.now)) c.args.key c.args.span
+    (Some c.in-Some.span) c.in-Some.is c.requires.reached
 
 pub add-requires-clause-columns : goal.add-requires-clause-columns
 add-requires-clause-columns g t c =
-    omega (arith, c.requires.wide, c.area_of-area.ensures.right, drawn-below c.args.scope.now.axis c.args.scope.now.grid c.args.key c.in-Some-columns_of.right c.in-Some-columns_of.ensures.columns.right_drawn)
+    omega (
+      arith,
+      c.requires.wide,
+      c.area_of-area.ensures.right,
+      drawn-below c.args.scope.now.axis c.args.scope.now.grid c.args.key c.in-Some-columns_of.right
+          c.in-Some-columns_of.ensures.columns.right_drawn,
+    )
 
 pub add-requires-clause-order : goal.add-requires-clause-order
 add-requires-clause-order g t c =
     let lo = c.args.scope.now.lo in
     let hi = c.args.scope.now.hi in
     let h = c.args.scope.now.grid.h in
-    let order = reached-order c.what_is_known.ensures.proper (scene_of c.args.scope.now (g.T.Teller.told c.args.teller.now)) c.args.key c.in-Some.span c.requires.proper
-    (reached-as (scene_of c.args.scope.now (g.T.Teller.told c.args.teller.now)) c.args.key c.args.span (Some c.in-Some.span) c.in-Some.is c.requires.reached) in
-    low-high _ _ _ _ c.area_of-area.ensures.low c.area_of-area.ensures.high (c.heights_rise.ensures c.in-Some.span.min c.in-Some.span.max lo hi h order)
+    let order = reached-order c.what_is_known.ensures.proper
+    (scene_of c.args.scope.now (g.T.Teller.told c.args.teller.now)) c.args.key c.in-Some.span c.requires.proper
+    (reached-as (scene_of c.args.scope.now (g.T.Teller.told c.args.teller.now)) c.args.key c.args.span
+    (Some c.in-Some.span) c.in-Some.is c.requires.reached) in
+    low-high _ _ _ _ c.area_of-area.ensures.low c.area_of-area.ensures.high
+    (c.heights_rise.ensures c.in-Some.span.min c.in-Some.span.max lo hi h order)
 
 pub add-requires-clause-before : goal.add-requires-clause-before
-add-requires-clause-before g t c = last-within (scene_of c.args.scope.now (g.T.Teller.told c.args.teller.now)) (first_slot c.args.key) c.args.bitmap.now.w c.args.last c.requires.wide c.requires.last
+add-requires-clause-before g t c = last-within (scene_of c.args.scope.now (g.T.Teller.told c.args.teller.now))
+    (first_slot c.args.key) c.args.bitmap.now.w c.args.last c.requires.wide c.requires.last
 
 pub returns-in_default-halves_of-clause-last : goal.returns-in_default-halves_of-clause-last
 returns-in_default-halves_of-clause-last g t c =
     let s : Span = c.in-Some.span in
-    let front : IsInFront (scene_of c.args.scope.now (g.T.Teller.told c.args.teller.now)) c.args.key s = front-is (scene_of c.args.scope.now (g.T.Teller.told c.args.teller.now)) c.args.key s c.in-Some-columns_of.left c.in-Some-columns_of.right c.in_default-halves_of.ensures.none c.in-Some-columns_of.ensures.columns in
-    let area : IsAreaOf (scene_of c.args.scope.now (g.T.Teller.told c.args.teller.now)) c.args.key s c.area_of-area.result = area-is (scene_of c.args.scope.now (g.T.Teller.told c.args.teller.now)) c.args.key s c.area_of-area.result c.in-Some-columns_of.left c.in-Some-columns_of.right
-    c.in-Some-columns_of.ensures.columns c.area_of-area.ensures.left c.area_of-area.ensures.right c.area_of-area.ensures.low c.area_of-area.ensures.high in
+    let front : IsInFront (scene_of c.args.scope.now (g.T.Teller.told c.args.teller.now)) c.args.key s = front-is
+    (scene_of c.args.scope.now (g.T.Teller.told c.args.teller.now)) c.args.key s c.in-Some-columns_of.left c.in-Some-columns_of.right
+    c.in_default-halves_of.ensures.none c.in-Some-columns_of.ensures.columns in
+    let area : IsAreaOf (scene_of c.args.scope.now (g.T.Teller.told c.args.teller.now)) c.args.key s c.area_of-area.result = area-is
+    (scene_of c.args.scope.now (g.T.Teller.told c.args.teller.now)) c.args.key s c.area_of-area.result c.in-Some-columns_of.left
+    c.in-Some-columns_of.right
+    c.in-Some-columns_of.ensures.columns c.area_of-area.ensures.left c.area_of-area.ensures.right c.area_of-area.ensures.low
+    c.area_of-area.ensures.high in
     last-lowest (scene_of c.args.scope.now (g.T.Teller.told c.args.teller.now)) c.args.key s c.area_of-area.result front area
 
 pub returns-in_default-halves_of-clause-drawn : goal.returns-in_default-halves_of-clause-drawn
@@ -107,10 +133,16 @@ returns-in_default-halves_of-clause-drawn g t c =
       last = c.ranges_hold_those_below.ensures.end;
     }) in
     let s : Span = c.in-Some.span in
-    let front : IsInFront (scene_of c.args.scope.now (g.T.Teller.told c.args.teller.now)) c.args.key s = front-is (scene_of c.args.scope.now (g.T.Teller.told c.args.teller.now)) c.args.key s c.in-Some-columns_of.left c.in-Some-columns_of.right c.in_default-halves_of.ensures.none c.in-Some-columns_of.ensures.columns in
-    let area : IsAreaOf (scene_of c.args.scope.now (g.T.Teller.told c.args.teller.now)) c.args.key s c.area_of-area.result = area-is (scene_of c.args.scope.now (g.T.Teller.told c.args.teller.now)) c.args.key s c.area_of-area.result c.in-Some-columns_of.left c.in-Some-columns_of.right
-    c.in-Some-columns_of.ensures.columns c.area_of-area.ensures.left c.area_of-area.ensures.right c.area_of-area.ensures.low c.area_of-area.ensures.high in
-    part-lowest by (scene_of c.args.scope.now (g.T.Teller.told c.args.teller.now)) c.args.key s c.area_of-area.result c.args.last _ _ front area c.requires.last c.add.ensures
+    let front : IsInFront (scene_of c.args.scope.now (g.T.Teller.told c.args.teller.now)) c.args.key s = front-is
+    (scene_of c.args.scope.now (g.T.Teller.told c.args.teller.now)) c.args.key s c.in-Some-columns_of.left c.in-Some-columns_of.right
+    c.in_default-halves_of.ensures.none c.in-Some-columns_of.ensures.columns in
+    let area : IsAreaOf (scene_of c.args.scope.now (g.T.Teller.told c.args.teller.now)) c.args.key s c.area_of-area.result = area-is
+    (scene_of c.args.scope.now (g.T.Teller.told c.args.teller.now)) c.args.key s c.area_of-area.result c.in-Some-columns_of.left
+    c.in-Some-columns_of.right
+    c.in-Some-columns_of.ensures.columns c.area_of-area.ensures.left c.area_of-area.ensures.right c.area_of-area.ensures.low
+    c.area_of-area.ensures.high in
+    part-lowest by (scene_of c.args.scope.now (g.T.Teller.told c.args.teller.now)) c.args.key s c.area_of-area.result c.args.last _ _ front
+    area c.requires.last c.add.ensures
 
 pub left-requires-clause-fits : goal.left-requires-clause-fits
 left-requires-clause-fits g t c = key_small c.args.scope.now.axis.slots c.args.key c.requires.reached.key
@@ -126,8 +158,13 @@ draw_below-middle-requires g t c κs within =
       (
         search rules,
         (
-          reached-at (scene_of c.args.scope.now (g.T.Teller.told c.args.teller.now)) (left_of c.args.key) c.left.result c.in-Some-halves_of.first c.left.ensures c.in-Some-halves_of.ensures.left,
-          (last-at (scene_of c.args.scope.now (g.T.Teller.told c.args.teller.now)) (first_slot c.args.key) (first_slot c.left.result) c.args.last start c.requires.last, (c.requires.proper, (c.requires.wide, c.requires.fit))),
+          reached-at (scene_of c.args.scope.now (g.T.Teller.told c.args.teller.now))
+              (left_of c.args.key) c.left.result c.in-Some-halves_of.first c.left.ensures c.in-Some-halves_of.ensures.left,
+          (
+            last-at (scene_of c.args.scope.now (g.T.Teller.told c.args.teller.now)) (first_slot c.args.key)
+                (first_slot c.left.result) c.args.last start c.requires.last,
+            (c.requires.proper, (c.requires.wide, c.requires.fit)),
+          ),
         ),
       ),
     )
@@ -140,9 +177,11 @@ draw_below-requires g t c κs within =
       (
         search rules,
         (
-          reached-at (scene_of c.args.scope.now (g.T.Teller.told c.args.teller.now)) (right_of c.args.key) c.right.result c.in-Some-halves_of.second c.right.ensures c.in-Some-halves_of.ensures.right,
+          reached-at (scene_of c.args.scope.now (g.T.Teller.told c.args.teller.now))
+              (right_of c.args.key) c.right.result c.in-Some-halves_of.second c.right.ensures c.in-Some-halves_of.ensures.right,
           (
-            last-at (scene_of c.args.scope.now (g.T.Teller.told c.args.teller.now)) (end_slot c.left.result) (first_slot c.right.result) c.draw_below-middle.result start c.draw_below-middle.ensures.last,
+            last-at (scene_of c.args.scope.now (g.T.Teller.told c.args.teller.now)) (end_slot c.left.result)
+                (first_slot c.right.result) c.draw_below-middle.result start c.draw_below-middle.ensures.last,
             (c.requires.proper, (c.draw_below-middle.ensures.drawn.width ∙ c.requires.wide, c.requires.fit)),
           ),
         ),
@@ -151,8 +190,10 @@ draw_below-requires g t c κs within =
 
 pub returns-clause-last : goal.returns-clause-last
 returns-clause-last g t c =
-    let stop : end_slot c.right.result ≡ end_slot c.args.key = ap end_slot c.right.ensures ∙ right_end c.args.key c.in-Some-halves_of.ensures.low in
-    last-at (scene_of c.args.scope.now (g.T.Teller.told c.args.teller.now)) (end_slot c.right.result) (end_slot c.args.key) c.draw_below.result stop c.draw_below.ensures.last
+    let stop : end_slot c.right.result ≡ end_slot c.args.key = ap end_slot c.right.ensures
+    ∙ right_end c.args.key c.in-Some-halves_of.ensures.low in
+    last-at (scene_of c.args.scope.now (g.T.Teller.told c.args.teller.now)) (end_slot c.right.result)
+    (end_slot c.args.key) c.draw_below.result stop c.draw_below.ensures.last
 
 pub returns-clause-drawn : goal.returns-clause-drawn
 returns-clause-drawn g t c =
@@ -165,5 +206,6 @@ returns-clause-drawn g t c =
       first = c.ranges_hold_those_below.ensures.first;
       last = c.ranges_hold_those_below.ensures.end;
     }) in
-    part-halves by (scene_of c.args.scope.now (g.T.Teller.told c.args.teller.now)) c.args.key c.left.result c.right.result c.in-Some-halves_of.first _ _ _ c.in-Some-halves_of.ensures.low c.left.ensures c.right.ensures
+    part-halves by (scene_of c.args.scope.now (g.T.Teller.told c.args.teller.now)) c.args.key c.left.result c.right.result
+    c.in-Some-halves_of.first _ _ _ c.in-Some-halves_of.ensures.low c.left.ensures c.right.ensures
     c.in-Some-halves_of.ensures.left c.draw_below-middle.ensures.drawn c.draw_below.ensures.drawn

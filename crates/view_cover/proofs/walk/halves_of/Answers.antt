@@ -19,7 +19,8 @@ returns-clause-left g c =
       first = c.ranges_hold_those_below.ensures.first;
       last = c.ranges_hold_those_below.ensures.end;
     }) in
-    reached-left by (scene_of c.args.scope.now (g.T.Teller.told c.args.teller.now)) c.args.key c.args.span _ _ (omega (arith, c.if-key-eq0.false)) c.requires.reached
+    reached-left by (scene_of c.args.scope.now (g.T.Teller.told c.args.teller.now)) c.args.key c.args.span _ _
+    (omega (arith, c.if-key-eq0.false)) c.requires.reached
     (sym c.coef.ensures ∙ c.in-Some.is) c.in-Ok.ensures.parts
 
 pub returns-clause-right : goal.returns-clause-right
@@ -33,5 +34,6 @@ returns-clause-right g c =
       first = c.ranges_hold_those_below.ensures.first;
       last = c.ranges_hold_those_below.ensures.end;
     }) in
-    reached-right by (scene_of c.args.scope.now (g.T.Teller.told c.args.teller.now)) c.args.key c.args.span _ _ (omega (arith, c.if-key-eq0.false)) c.requires.reached
+    reached-right by (scene_of c.args.scope.now (g.T.Teller.told c.args.teller.now)) c.args.key c.args.span _ _
+    (omega (arith, c.if-key-eq0.false)) c.requires.reached
     (sym c.coef.ensures ∙ c.in-Some.is) c.in-Ok.ensures.parts

@@ -15,7 +15,8 @@ test m n h = grind (arith, nat_tests)
 abbrev back : ℤ → ℤ
 back v = to_z w64 (of_z w64 v)
 
-height_back : (v lo hi : ℤ) (h : ℕ) → FitsSigned w64 v → FitsSigned w64 lo → FitsSigned w64 hi → height (back v) (back lo) (back hi) h ≡ height v lo hi h
+height_back : (v lo hi : ℤ) (h : ℕ) → FitsSigned w64 v → FitsSigned w64 lo → FitsSigned w64 hi
+    → height (back v) (back lo) (back hi) h ≡ height v lo hi h
 height_back v lo hi h fits low high =
     ap (λ x. height x (back lo) (back hi) h) (to_z-of_z w64 v fits)
     ∙ (ap (λ x. height v x (back hi) h) (to_z-of_z w64 lo low) ∙ ap (λ x. height v lo x h) (to_z-of_z w64 hi high))

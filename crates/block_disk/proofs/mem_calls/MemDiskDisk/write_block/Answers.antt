@@ -18,15 +18,25 @@ returns-in_err-begun-3-clause-moves c =
     ∙ ap (λ n. take n (drop start c.as_slice-bytes.result.now)) sum
     ∙ ap (λ l. take block_size (drop start l)) (c.as_slice-bytes.ensures.value ∙ c.begin-begun.ensures.bytes) in
     let same = c.keep.ensures.bytes ∙ c.begin-begun.ensures.bytes in
-    moves_wrote one self.blocks note.blocks self.record.items note.record.items c.in-Ok.block self.bytes.items note.bytes.items self.faults note.faults self.reads note.reads self.syncs note.syncs self.writes note.writes 0 0 1
+    moves_wrote one self.blocks note.blocks self.record.items note.record.items c.in-Ok.block self.bytes.items note.bytes.items self.faults
+    note.faults self.reads note.reads self.syncs note.syncs self.writes note.writes 0 0 1
     was
     (λ number other. ap (λ l. blocks_of l number) same)
     (c.in-Ok-keep.ensures.ok ∙ ap (λ l. l ++ Wrote one c.in-Ok.block ∷ []) c.begin-begun.ensures.record)
     (c.keep.ensures.blocks ∙ c.begin-begun.ensures.blocks)
     (omega (arith, c.keep.ensures.faults, c.begin-begun.ensures.faults))
-    (record { low = omega (arith, c.keep.ensures.reads, c.begin-begun.ensures.reads); high = omega (arith, c.keep.ensures.reads, c.begin-begun.ensures.reads) })
-    (record { low = omega (arith, c.keep.ensures.syncs, c.begin-begun.ensures.syncs); high = omega (arith, c.keep.ensures.syncs, c.begin-begun.ensures.syncs) })
-    (record { low = omega (arith, c.keep.ensures.writes, c.begin-begun.ensures.writes, c.count_one.ensures.low); high = omega (arith, c.keep.ensures.writes, c.begin-begun.ensures.writes, c.count_one.ensures.high) })
+    (record {
+      low = omega (arith, c.keep.ensures.reads, c.begin-begun.ensures.reads);
+      high = omega (arith, c.keep.ensures.reads, c.begin-begun.ensures.reads);
+    })
+    (record {
+      low = omega (arith, c.keep.ensures.syncs, c.begin-begun.ensures.syncs);
+      high = omega (arith, c.keep.ensures.syncs, c.begin-begun.ensures.syncs);
+    })
+    (record {
+      low = omega (arith, c.keep.ensures.writes, c.begin-begun.ensures.writes, c.count_one.ensures.low);
+      high = omega (arith, c.keep.ensures.writes, c.begin-begun.ensures.writes, c.count_one.ensures.high);
+    })
 
 pub returns-clause-moves : goal.returns-clause-moves
 returns-clause-moves c =
@@ -40,16 +50,32 @@ returns-clause-moves c =
     ∙ ap (λ l. take block_size (drop start l)) (c.as_slice-bytes.ensures.value ∙ c.begin-begun.ensures.bytes) in
     let same = c.keep.ensures.bytes ∙ c.begin-begun.ensures.bytes in
     let written = c.replace.ensures.replaced ∙ ap (λ l. replaced l start c.args.from.now) same in
-    let within : start + block_size ≤ length self.bytes.items = omega (arith, self.within, c.requires.no_in_size, mul-le-mul_left block_size c.requires.no_in_size) in
-    moves_wrote one self.blocks note.blocks self.record.items note.record.items c.in-Ok.block self.bytes.items c.replace.new.bytes.items self.faults note.faults self.reads note.reads self.syncs note.syncs self.writes note.writes 0 0 1
+    let within : start + block_size ≤ length self.bytes.items = omega (
+      arith,
+      self.within,
+      c.requires.no_in_size,
+      mul-le-mul_left block_size c.requires.no_in_size,
+    ) in
+    moves_wrote one self.blocks note.blocks self.record.items note.record.items c.in-Ok.block self.bytes.items c.replace.new.bytes.items
+    self.faults note.faults self.reads note.reads self.syncs note.syncs self.writes note.writes 0 0 1
     was
-    (λ number other. ap (λ l. blocks_of l number) written ∙ block_other self.bytes.items one c.args.from.now number c.requires.whole within other)
+    (λ number other. ap (λ l. blocks_of l number) written
+    ∙ block_other self.bytes.items one c.args.from.now number c.requires.whole within other)
     (c.in-Ok-keep.ensures.ok ∙ ap (λ l. l ++ Wrote one c.in-Ok.block ∷ []) c.begin-begun.ensures.record)
     (c.keep.ensures.blocks ∙ c.begin-begun.ensures.blocks)
     (omega (arith, c.keep.ensures.faults, c.begin-begun.ensures.faults))
-    (record { low = omega (arith, c.keep.ensures.reads, c.begin-begun.ensures.reads); high = omega (arith, c.keep.ensures.reads, c.begin-begun.ensures.reads) })
-    (record { low = omega (arith, c.keep.ensures.syncs, c.begin-begun.ensures.syncs); high = omega (arith, c.keep.ensures.syncs, c.begin-begun.ensures.syncs) })
-    (record { low = omega (arith, c.keep.ensures.writes, c.begin-begun.ensures.writes, c.count_one.ensures.low); high = omega (arith, c.keep.ensures.writes, c.begin-begun.ensures.writes, c.count_one.ensures.high) })
+    (record {
+      low = omega (arith, c.keep.ensures.reads, c.begin-begun.ensures.reads);
+      high = omega (arith, c.keep.ensures.reads, c.begin-begun.ensures.reads);
+    })
+    (record {
+      low = omega (arith, c.keep.ensures.syncs, c.begin-begun.ensures.syncs);
+      high = omega (arith, c.keep.ensures.syncs, c.begin-begun.ensures.syncs);
+    })
+    (record {
+      low = omega (arith, c.keep.ensures.writes, c.begin-begun.ensures.writes, c.count_one.ensures.low);
+      high = omega (arith, c.keep.ensures.writes, c.begin-begun.ensures.writes, c.count_one.ensures.high);
+    })
 
 pub returns-clause-written : goal.returns-clause-written
 returns-clause-written c _ =
@@ -58,5 +84,10 @@ returns-clause-written c _ =
     let start = block_size * one in
     let same = c.keep.ensures.bytes ∙ c.begin-begun.ensures.bytes in
     let written = c.replace.ensures.replaced ∙ ap (λ l. replaced l start c.args.from.now) same in
-    let within : start + block_size ≤ length self.bytes.items = omega (arith, self.within, c.requires.no_in_size, mul-le-mul_left block_size c.requires.no_in_size) in
+    let within : start + block_size ≤ length self.bytes.items = omega (
+      arith,
+      self.within,
+      c.requires.no_in_size,
+      mul-le-mul_left block_size c.requires.no_in_size,
+    ) in
     ap (λ l. blocks_of l one) written ∙ block_there self.bytes.items one c.args.from.now c.requires.whole within

@@ -13,7 +13,8 @@ tear_all-requires-clause-fits c =
     let self = c.args.self in
     let calls = c.as_slice-calls.result.now in
     let P : List Call → Type 0 = λ l. IsTrue (list_all (call_fits self.blocks) l) in
-    subst P (sym (behind_all calls c.undo-synced.result)) (all_behind (call_fits self.blocks) calls c.undo-synced.result (subst P (sym c.as_slice-calls.ensures.value) self.noted))
+    subst P (sym (behind_all calls c.undo-synced.result))
+    (all_behind (call_fits self.blocks) calls c.undo-synced.result (subst P (sym c.as_slice-calls.ensures.value) self.noted))
 
 pub returns-clause-left : goal.returns-clause-left
 returns-clause-left c =
@@ -29,7 +30,8 @@ returns-clause-left c =
     ∙ c.undo-synced.ensures.undone
     ∙ ap (λ l. before_all (drop synced l) (blocks_of c.in_ok-old.old.items)) c.as_slice-2.ensures.value
     ∙ ap (λ b. before_all (drop synced calls) (blocks_of b)) (c.in_ok-old.ensures.items ∙ c.as_slice.ensures.value) in
-    let left = crashed c.args.tear calls (take (length slice - synced) (drop synced slice)) synced image (blocks_of c.as_slice-4.result.now) (blocks_of c.as_slice-3.result.now) (blocks_of c.in_ok-bytes.bytes.items)
+    let left = crashed c.args.tear calls (take (length slice - synced) (drop synced slice)) synced image (blocks_of c.as_slice-4.result.now)
+    (blocks_of c.as_slice-3.result.now) (blocks_of c.in_ok-bytes.bytes.items)
     (subst PE c.as_slice-2.ensures.value c.undo-synced.ensures.synced)
     (subst PN c.as_slice-2.ensures.value c.undo-synced.ensures.since)
     (behind_all slice synced ∙ ap (λ l. drop synced l) c.as_slice-calls.ensures.value)
@@ -52,7 +54,8 @@ returns-clause-possible c =
     ∙ c.undo-synced.ensures.undone
     ∙ ap (λ l. before_all (drop synced l) (blocks_of c.in_ok-old.old.items)) c.as_slice-2.ensures.value
     ∙ ap (λ b. before_all (drop synced calls) (blocks_of b)) (c.in_ok-old.ensures.items ∙ c.as_slice.ensures.value) in
-    let left = crashed c.args.tear calls (take (length slice - synced) (drop synced slice)) synced image (blocks_of c.as_slice-4.result.now) (blocks_of c.as_slice-3.result.now) (blocks_of c.in_ok-bytes.bytes.items)
+    let left = crashed c.args.tear calls (take (length slice - synced) (drop synced slice)) synced image (blocks_of c.as_slice-4.result.now)
+    (blocks_of c.as_slice-3.result.now) (blocks_of c.in_ok-bytes.bytes.items)
     (subst PE c.as_slice-2.ensures.value c.undo-synced.ensures.synced)
     (subst PN c.as_slice-2.ensures.value c.undo-synced.ensures.since)
     (behind_all slice synced ∙ ap (λ l. drop synced l) c.as_slice-calls.ensures.value)

@@ -7,11 +7,13 @@ use Rattle.chart_client.proofs.client.Client.held.Goals as goal
 
 pub returns-in_default : goal.returns-in_default
 returns-in_default c =
-    sym (ap (λ (o : Option Holding). held_by o c.args.series c.args.key) (at_none c.args.session c.args.self.now (sym c.place_of.ensures ∙ c.in_default.is)))
+    sym (ap (λ (o : Option Holding). held_by o c.args.series c.args.key)
+    (at_none c.args.session c.args.self.now (sym c.place_of.ensures ∙ c.in_default.is)))
 
 pub returns : goal.returns
 returns c =
     let at : IsAt c.args.session c.args.self.now c.in-Some.place c.index.result.now =
     at_held c.args.session c.self.inside.holdings.items c.args.self.now c.in-Some.place c.index.result.now c.self.view_is
     (sym c.place_of.ensures ∙ c.in-Some.is) c.index.ensures in
-    c.find.ensures ∙ sym (ap (λ (o : Option Holding). held_by o c.args.series c.args.key) (held_at c.args.session c.args.self.now c.in-Some.place c.index.result.now at))
+    c.find.ensures ∙ sym (ap (λ (o : Option Holding). held_by o c.args.series c.args.key)
+    (held_at c.args.session c.args.self.now c.in-Some.place c.index.result.now at))

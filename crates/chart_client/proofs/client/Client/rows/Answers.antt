@@ -11,7 +11,8 @@ returns-clause-accepted c =
       record {
         wide = c.in_ok-bitmap.ensures.wide;
         high = c.in_ok-bitmap.ensures.tall;
-        draws = λ grid points canvas order rows. (simp to_z-of_z at c.in_ok-bitmap.ensures.draws grid points c.args.rows.now.rows canvas order rows) refl;
+        draws = λ grid points canvas order rows. (simp to_z-of_z at c.in_ok-bitmap.ensures.draws grid points c.args.rows.now.rows canvas
+            order rows) refl;
         holdings = refl;
       },
     )

@@ -27,7 +27,8 @@ returns-in_err-findings-clause-rejected c =
     let at : IsAt c.args.view.now.session c.args.self.now c.in-Some.place c.index.result.now =
     at_held c.args.view.now.session c.self.inside.holdings.items c.args.self.now c.in-Some.place c.index.result.now c.self.view_is
     (sym c.place_of.ensures ∙ c.in-Some.is) c.index.ensures in
-    err_as c.from_residual.result (λ (e : ClientError). Rejects (View c.args.view.now) e c.args.self.now) c.in_err-findings.field-0.0 c.from_residual.ensures.1
+    err_as c.from_residual.result (λ (e : ClientError). Rejects (View c.args.view.now) e c.args.self.now) c.in_err-findings.field-0.0
+    c.from_residual.ensures.1
     (view_rejected c.args.view.now c.args.self.now c.in-Some.place c.index.result.now c.grid_of-grid.result c.in_err-findings.field-0.0 at
     c.grid_of-grid.ensures c.in_err-findings.ensures.failed)
 
@@ -41,7 +42,8 @@ index_mut-holding-requires c =
 
 pub renew-requires : goal.renew-requires
 renew-requires c =
-    subst (λ (es : List (Key × Coef)). AreDistinct es) (sym c.as_slice.ensures) (order_distinct c.in_ok-findings.findings.needed c.in_ok-findings.ensures.wanted.order)
+    subst (λ (es : List (Key × Coef)). AreDistinct es) (sym c.as_slice.ensures)
+    (order_distinct c.in_ok-findings.findings.needed c.in_ok-findings.ensures.wanted.order)
 
 pub returns-clause-accepted : goal.returns-clause-accepted
 returns-clause-accepted c =
@@ -56,7 +58,8 @@ returns-clause-accepted c =
     same_held c.self.inside.holdings.items c.in-Some.place c.index.result.now held
     (inside_items c.args.view.now.session c.self.inside.holdings.items c.args.self.now c.in-Some.place held c.self.view_is at)
     c.index.ensures c.index_mut-holding.ensures.value in
-    let drawn : IsDrawn c.args.view.now c.index.result.now.cache c.grid_of-grid.result es c.in_ok-findings.findings.rows c.in_ok-bitmap.bitmap =
+    let drawn : IsDrawn c.args.view.now c.index.result.now.cache c.grid_of-grid.result es c.in_ok-findings.findings.rows
+    c.in_ok-bitmap.bitmap =
     record {
       fits = c.requires;
       grid_is = c.grid_of-grid.ensures;
@@ -65,15 +68,19 @@ returns-clause-accepted c =
       shown = c.in_ok-findings.ensures.rows;
       wide = c.in_ok-bitmap.ensures.wide;
       high = c.in_ok-bitmap.ensures.tall;
-      draws = λ g points of canvas order rows heights. (simp to_z-of_z at c.in_ok-bitmap.ensures.draws g points of canvas order rows) heights;
+      draws = λ g points of canvas order rows heights.
+          (simp to_z-of_z at c.in_ok-bitmap.ensures.draws g points of canvas order rows) heights;
     } in
     let renewed_is : c.renew.new.self ≡ viewed c.args.view.now held.cache es =
     same_cache c.renew.new.self (renewed held.cache.capacity held.cache.pairs (in_series c.args.view.now.series es)) held.cache.capacity
-    (c.in_ok-renew.ensures.renewed ∙ ap (λ (l : List (Key × Coef)). renewed held.cache.capacity held.cache.pairs (in_series c.args.view.now.series l)) c.as_slice.ensures)
+    (c.in_ok-renew.ensures.renewed ∙ ap (λ (l : List (Key × Coef)). renewed held.cache.capacity held.cache.pairs
+    (in_series c.args.view.now.series l)) c.as_slice.ensures)
     c.in_ok-renew.ensures.capacity in
-    view_accepted c.args.view.now c.args.self.now _ c.in-Some.place held c.grid_of-grid.result es c.in_ok-findings.findings.rows c.in_ok-bitmap.bitmap c.renew.new.self
+    view_accepted c.args.view.now c.args.self.now _ c.in-Some.place held c.grid_of-grid.result es c.in_ok-findings.findings.rows
+    c.in_ok-bitmap.bitmap c.renew.new.self
     (record { order = c.points_are_the_samples.ensures.order; placed = c.points_are_the_samples.ensures.places }) at
-    (subst (λ (h : Holding). IsDrawn c.args.view.now h.cache c.grid_of-grid.result es c.in_ok-findings.findings.rows c.in_ok-bitmap.bitmap) same drawn)
+    (subst (λ (h : Holding). IsDrawn c.args.view.now h.cache c.grid_of-grid.result es c.in_ok-findings.findings.rows c.in_ok-bitmap.bitmap)
+    same drawn)
     renewed_is
     (ap (λ (hs : List Holding). set hs c.in-Some.place (record { number = held.number; cache = c.renew.new.self })) c.self.view_is)
 
@@ -83,7 +90,9 @@ picture_of-requires c =
     let high_fits : SFits w64 c.args.view.now.hi = search rules in
     let low : c.args.view.now.lo ≡ to_z w64 (of_z w64 c.args.view.now.lo) = sym (to_z-of_z w64 c.args.view.now.lo low_fits) in
     let high : c.args.view.now.hi ≡ to_z w64 (of_z w64 c.args.view.now.hi) = sym (to_z-of_z w64 c.args.view.now.hi high_fits) in
-    let range : IsRange (to_z w64 (of_z w64 c.args.view.now.lo)) (to_z w64 (of_z w64 c.args.view.now.hi)) = range_at IsRange c.args.view.now.lo c.args.view.now.hi _ _ low high c.requires.head.source.range in
+    let range : IsRange (to_z w64 (of_z w64 c.args.view.now.lo))
+    (to_z w64 (of_z w64 c.args.view.now.hi)) = range_at IsRange c.args.view.now.lo c.args.view.now.hi _ _ low high
+    c.requires.head.source.range in
     record {
       some_columns = c.requires.head.place.width.low;
       columns = c.requires.head.place.width.high;
@@ -93,7 +102,8 @@ picture_of-requires c =
       low_end = range.low;
       high_end = range.high;
       rising = c.in_ok-findings.ensures.rising;
-      drawable = subst (λ (w : ℕ). All (IsDrawable w) c.in_ok-findings.findings.rows) c.grid_of-grid.ensures.canvas.columns c.in_ok-findings.ensures.drawable;
+      drawable = subst (λ (w : ℕ). All (IsDrawable w) c.in_ok-findings.findings.rows) c.grid_of-grid.ensures.canvas.columns
+          c.in_ok-findings.ensures.drawable;
     }
 
 pub returns-in_err-findings-clause-accepted : goal.returns-in_err-findings-clause-accepted
@@ -119,5 +129,6 @@ returns-clause-columns c =
     let at : IsAt c.args.view.now.session c.args.self.now c.in-Some.place c.index.result.now =
     at_held c.args.view.now.session c.self.inside.holdings.items c.args.self.now c.in-Some.place c.index.result.now c.self.view_is
     (sym c.place_of.ensures ∙ c.in-Some.is) c.index.ensures in
-    view_spanned c.args.view.now c.args.self.now c.in-Some.place c.index.result.now c.grid_of-grid.result c.in_ok-findings.findings.rows c.of-columns.result
+    view_spanned c.args.view.now c.args.self.now c.in-Some.place c.index.result.now c.grid_of-grid.result c.in_ok-findings.findings.rows
+    c.of-columns.result
     at c.grid_of-grid.ensures c.in_ok-findings.ensures.rows c.of-columns.ensures

@@ -16,7 +16,8 @@ record Split (s : Span) (c : Coef) : Type 0 where
   halves : Option Span × Option Span
   is : parts s c ≡ Some halves
 
-splits : {E : Type 0} (r : Result (Option Span × Option Span) E) (s : Span) (c : Coef) → IfOk r (λ halves. parts s c ≡ Some halves) → is_err r ≡ false → Split s c
+splits : {E : Type 0} (r : Result (Option Span × Option Span) E) (s : Span) (c : Coef) → IfOk r (λ halves. parts s c ≡ Some halves)
+    → is_err r ≡ false → Split s c
 splits (Ok halves) s c is good = record { halves = halves; is = is }
 splits (Err e) s c is good = let bad : true ≡ false = good in cc
 
@@ -26,12 +27,14 @@ returns-then-is_err-clause-cause c = record {
   known_so = sym (usable_known (seen_of c.args.self.now) c.args.self.now.slots c.args.key) ∙ c.requires.seen tt;
   coef = c.in-Some.coef;
   told = sym c.told-told.ensures ∙ c.in-Some.is;
-  splits_not = splits_not c.split.result (parts c.args.span c.in-Some.coef ≡ None) c.split.ensures.none (sym c.is_err.ensures.value ∙ c.if-is_err.true);
+  splits_not = splits_not c.split.result (parts c.args.span c.in-Some.coef ≡ None) c.split.ensures.none (sym c.is_err.ensures.value
+      ∙ c.if-is_err.true);
 }
 
 pub returns-clause-told : goal.returns-clause-told
 returns-clause-told c = λ tells.
-    let s : Split c.args.span c.in-Some.coef = splits c.split.result c.args.span c.in-Some.coef c.split.ensures.parts (sym c.is_err.ensures.value ∙ c.if-is_err.false) in
+    let s : Split c.args.span c.in-Some.coef = splits c.split.result c.args.span c.in-Some.coef c.split.ensures.parts
+    (sym c.is_err.ensures.value ∙ c.if-is_err.false) in
     usable_split (seen_of c.args.self.now) c.args.self.now.slots c.args.key c.args.span c.in-Some.coef s.halves
     (sym (usable_known (seen_of c.args.self.now) c.args.self.now.slots c.args.key) ∙ c.requires.seen tt)
     (sym c.told-told.ensures ∙ c.in-Some.is) s.is

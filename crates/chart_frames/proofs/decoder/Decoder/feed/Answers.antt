@@ -18,10 +18,19 @@ invariant_of-self c =
       | in-Ok w ↦
           let grown : new ≡ old ++ c.args.piece.now = w.in-Ok.ensures.items in
           let more : drop start new ≡ held ++ c.args.piece.now =
-          ap (drop start) grown ∙ drop-append-le start old c.args.piece.now c.drop_given-self-inside.ensures.bounds ∙ ap (λ (p : List ℕ). p ++ c.args.piece.now) rest in
+          ap (drop start) grown ∙ drop-append-le start old c.args.piece.now c.drop_given-self-inside.ensures.bounds
+          ∙ ap (λ (p : List ℕ). p ++ c.args.piece.now) rest in
           record {
             start = omega (arith, ap length grown, length-append old c.args.piece.now, c.drop_given-self-inside.ensures.bounds);
-            counted = omega (arith, ap length more, length-append held c.args.piece.now, length-drop c.self.inside.start c.self.inside.bytes.items, c.self.invariant.counted, c.if-piece-self.false, c.len.ensures);
+            counted = omega (
+              arith,
+              ap length more,
+              length-append held c.args.piece.now,
+              length-drop c.self.inside.start c.self.inside.bytes.items,
+              c.self.invariant.counted,
+              c.if-piece-self.false,
+              c.len.ensures,
+            );
             reached = subst P (sym more) (fed held c.args.piece.now place c.self.invariant.reached);
           }
       | in-Err w ↦

@@ -3,7 +3,8 @@ use Rattle.std.specs.Int.{w128}
 use Rattle.std.proofs.lemmas.Int.{ints, to_z-of_z}
 use Rattle.chart_grid.specs.Limits.{IsBadWindow}
 use Rattle.chart_grid.proofs.Windows.{no_bad_window}
-use Rattle.chart_grid.proofs.grid.Grid.new.Goals.{then-t0-t1-via-then-t0-t1, then-t0-t1-via-else-t0-t1+then-is_far, then-t0-t1-via-else-t0-t1+else-is_far+then-is_far-2}
+use Rattle.chart_grid.proofs.grid.Grid.new.Goals.{then-t0-t1-via-then-t0-t1, then-t0-t1-via-else-t0-t1+then-is_far}
+use Rattle.chart_grid.proofs.grid.Grid.new.Goals.{then-t0-t1-via-else-t0-t1+else-is_far+then-is_far-2}
 use Rattle.chart_grid.proofs.grid.Grid.new.Goals as goal
 
 is_bad : (c : goal.Joined-then-t0-t1) → IsBadWindow c.args.t0 c.args.t1
@@ -13,7 +14,8 @@ is_bad c =
     elim c.then-t0-t1.branch [
       | then-t0-t1-via-then-t0-t1 w ↦ (let order = simp to_z-of_z at w.if-t0-t1.true in inl (omega (arith, ints, order)))
       | then-t0-t1-via-else-t0-t1+then-is_far w ↦ (let far = simp to_z-of_z at w.is_far.ensures in inr (inl (far.0 w.if-is_far.true)))
-      | then-t0-t1-via-else-t0-t1+else-is_far+then-is_far-2 w ↦ (let far = simp to_z-of_z at w.is_far-else-is_far.ensures in inr (inr (far.0 w.if-is_far-2.true)))
+      | then-t0-t1-via-else-t0-t1+else-is_far+then-is_far-2 w ↦ (let far = simp to_z-of_z at w.is_far-else-is_far.ensures in
+          inr (inr (far.0 w.if-is_far-2.true)))
     ]
 
 pub returns-then-t0-t1-clause-accepted : goal.returns-then-t0-t1-clause-accepted

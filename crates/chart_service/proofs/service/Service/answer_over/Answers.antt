@@ -18,10 +18,14 @@ returns-in-Ok-clause-replying g c = λ total book t0 t1 told stands moved.
     let grid = c.in-Ok.grid in
     let is : IsMoved last.grid t0 t1 (Ok grid) = subst (IsMoved last.grid t0 t1) c.in-Ok.is moved in
     let at = slice_get book last.series in
-    replying_so (λ frame old new. IsSomeAnd (slice_get old.book last.series) (λ series. AnswersView series (record { series = last.series; grid = grid; range = last.range; filter = last.filter }) number frame old new)) (λ frame old new. Moves last number t0 t1 frame old new)
-    (ReadsBy last.filter grid.w grid.t0 grid.t1 at) (ReadsBy last.filter last.grid.w t0 t1 at) c.answer.result total book c.args.self.now.sessions c.answer.new.self.sessions
+    replying_so (λ frame old new. IsSomeAnd (slice_get old.book last.series)
+    (λ series. AnswersView series (record { series = last.series; grid = grid; range = last.range; filter = last.filter }) number frame
+    old new)) (λ frame old new. Moves last number t0 t1 frame old new)
+    (ReadsBy last.filter grid.w grid.t0 grid.t1 at)
+    (ReadsBy last.filter last.grid.w t0 t1 at) c.answer.result total book c.args.self.now.sessions c.answer.new.self.sessions
     (g.P.Pages.view (shown.pages c.args.self.now)) (g.P.Pages.view (shown.pages c.answer.new.self))
-    (λ frame. moves_answered last number t0 t1 grid frame (state_of book total c.args.self.now.sessions) (state_of book total c.answer.new.self.sessions) is)
+    (λ frame. moves_answered last number t0 t1 grid frame (state_of book total c.args.self.now.sessions)
+    (state_of book total c.answer.new.self.sessions) is)
     (reads_moved book last grid t0 t1 _ _ is)
     (c.answer.ensures.replying total book told stands)
 
@@ -31,8 +35,12 @@ returns-in-Err-clause-replying g c = λ total book t0 t1 told stands moved.
     let number = c.args.number in
     let ss = c.args.self.now.sessions in
     let view = g.P.Pages.view (shown.pages c.args.self.now) in
-    replying_refused (λ frame old new. Moves last number t0 t1 frame old new) (ReadsBy last.filter last.grid.w t0 t1 (slice_get book last.series)) c.refused.result total book ss view
-    (moves_refused last number t0 t1 c.in-Err.field-0 c.refused.result (state_of book total ss) (subst (IsMoved last.grid t0 t1) c.in-Err.is moved) (omega (arith, c.requires.view.there, c.len-count.ensures.count, c.len-count.ensures.books total book c.requires.sound told stands)) c.refused.ensures.frame)
+    replying_refused (λ frame old new. Moves last number t0 t1 frame old new)
+    (ReadsBy last.filter last.grid.w t0 t1 (slice_get book last.series)) c.refused.result total book ss view
+    (moves_refused last number t0 t1 c.in-Err.field-0 c.refused.result (state_of book total ss)
+    (subst (IsMoved last.grid t0 t1) c.in-Err.is moved)
+    (omega (arith, c.requires.view.there, c.len-count.ensures.count, c.len-count.ensures.books total book c.requires.sound told stands))
+    c.refused.ensures.frame)
     (reads_by last.filter last.grid.w t0 t1 (slice_get book last.series) view.reads)
 
 pub returns-in-Ok-clause-tells : goal.returns-in-Ok-clause-tells

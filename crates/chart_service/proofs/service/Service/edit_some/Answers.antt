@@ -56,12 +56,15 @@ returns-in-Err g c =
       disk = λ is. group_risen error end told (stored.numbers store) old new c.group_error.ensures no.cause (err_is is);
       quiet = tt;
       quiet_err = λ other. no.quiet_err (λ is. other (c.group_error.ensures ∙ ap group_end is));
-      blames = group_blames error end told told' (stored.catalog store) (stored.numbers store) old new c.group_error.ensures own made.moves no.unchanged no.cause;
+      blames = group_blames error end told told' (stored.catalog store)
+          (stored.numbers store) old new c.group_error.ensures own made.moves no.unchanged no.cause;
       idle = λ total book t stands. tt;
-      bad = group_bad error end told told' (stored.catalog store) (stored.numbers store) old new c.group_error.ensures own made.moves no.unchanged no.cause;
+      bad = group_bad error end told told' (stored.catalog store)
+          (stored.numbers store) old new c.group_error.ensures own made.moves no.unchanged no.cause;
       moves = group_steps told told' old new made.moves;
       goes_on = made.goes_on;
-      sound = λ other. (group_kept error end told old new c.group_error.ensures no.unchanged (λ is. other (ap Err is))).fit c.requires.sound;
+      sound = λ other. (group_kept error end told old new c.group_error.ensures no.unchanged (λ is. other (ap Err is))).fit
+          c.requires.sound;
       total = made.total;
     }
 
@@ -83,15 +86,19 @@ returns g c =
     let count = frames_more result answers slice before now c.as_slice.ensures.value c.add_frames.ensures.done in
     record {
       done = λ total book t stands.
-          does_some result total book edits answers slice before now new.image c.as_slice.ensures.value yes.covered.1 (yes.many total book t stands) (yes.done total book t stands) c.add_frames.ensures.done;
+          does_some result total book edits answers slice before now new.image c.as_slice.ensures.value yes.covered.1
+          (yes.many total book t stands) (yes.done total book t stands) c.add_frames.ensures.done;
       standing = λ total book t stands. error_so result (λ e. e ≡ NoMemory) IsOutside (λ e is. inr is) ends;
       left = λ total book t stands other. after_first total book edits _ new.image (yes.done total book t stands).stands;
       moments = λ total book t stands. whole_passes total book edits old new (made.whole total book t stands);
       reads = made.reads;
-      few_reads = λ total book t stands. few_read result answers slice before now _ _ c.as_slice.ensures.value (yes.few_reads total book t stands) c.add_frames.ensures.done;
+      few_reads = λ total book t stands. few_read result answers slice before now _ _ c.as_slice.ensures.value
+          (yes.few_reads total book t stands) c.add_frames.ensures.done;
       syncs = omega (arith, made.moves.syncs);
-      more = ok_so result (length now ≡ length before + length answers) (length before < length now) (λ is. omega (arith, is, yes.covered)) count;
-      most = ok_so result (length now ≡ length before + length answers) (length now ≤ length before + length edits) (λ is. omega (arith, is, yes.covered)) count;
+      more = ok_so result (length now ≡ length before + length answers) (length before < length now)
+          (λ is. omega (arith, is, yes.covered)) count;
+      most = ok_so result (length now ≡ length before + length answers) (length now ≤ length before + length edits)
+          (λ is. omega (arith, is, yes.covered)) count;
       fits = c.add_frames.ensures.fits;
       replies = c.add_frames.ensures.replies;
       sessions = refl;
@@ -101,9 +108,12 @@ returns g c =
           cc (no);
       quiet = on_ok result _ yes.quiet;
       quiet_err = quiet_any result (λ e. e ≢ DiskFault) (new.faults ≡ old.faults) yes.quiet;
-      blames = error_so result (λ e. e ≡ NoMemory) (NamesBadForEdit told' new.size new.image) (λ e is. subst (NamesBadForEdit told' new.size new.image) (sym is) tt) ends;
-      idle = λ total book t stands. on_ok result _ (λ none. yes.idle total book t stands (none_first total book (length answers) edits none));
-      bad = error_so result (λ e. e ≡ NoMemory) (NamesBad told' new.size new.image) (λ e is. subst (NamesBad told' new.size new.image) (sym is) tt) ends;
+      blames = error_so result (λ e. e ≡ NoMemory) (NamesBadForEdit told' new.size new.image)
+          (λ e is. subst (NamesBadForEdit told' new.size new.image) (sym is) tt) ends;
+      idle = λ total book t stands. on_ok result _ (λ none. yes.idle total book t stands
+          (none_first total book (length answers) edits none));
+      bad = error_so result (λ e. e ≡ NoMemory) (NamesBad told' new.size new.image)
+          (λ e is. subst (NamesBad told' new.size new.image) (sym is) tt) ends;
       moves = group_steps told told' old new made.moves;
       goes_on = made.goes_on;
       sound = λ other. yes.sound;

@@ -27,11 +27,15 @@ returns-clause-replying g c = λ total book told stands.
     let is : IsLastOf session (Ok last) = subst L (sym c.in_ok-last-in-Ok.ensures) c.in-Ok.ensures.last in
     let by : FitsSigned w128 c.args.by = search rules in
     let B : ℤ → Type 0 = λ by. IsMoved last.grid (last.grid.t0 +ℤ by) (last.grid.t1 +ℤ by) c.panned-grid.result in
-    let moved : IsMoved last.grid (last.grid.t0 +ℤ c.args.by) (last.grid.t1 +ℤ c.args.by) c.panned-grid.result = subst B (to_z-of_z w128 c.args.by by) c.panned-grid.ensures in
-    replying_so (λ frame old new. Moves last number (last.grid.t0 +ℤ c.args.by) (last.grid.t1 +ℤ c.args.by) frame old new) (λ frame old new. MovesIn (session_of number old.sessions) number window frame old new)
-    (ReadsLast book (Some last) window) (ReadsLast book (last_of session) window) c.answer_over.result total book ss c.answer_over.new.self.sessions
+    let moved : IsMoved last.grid (last.grid.t0 +ℤ c.args.by) (last.grid.t1 +ℤ c.args.by) c.panned-grid.result = subst B
+    (to_z-of_z w128 c.args.by by) c.panned-grid.ensures in
+    replying_so (λ frame old new. Moves last number (last.grid.t0 +ℤ c.args.by) (last.grid.t1 +ℤ c.args.by) frame old new)
+    (λ frame old new. MovesIn (session_of number old.sessions) number window frame old new)
+    (ReadsLast book (Some last) window) (ReadsLast book (last_of session) window) c.answer_over.result total book ss
+    c.answer_over.new.self.sessions
     (g.P.Pages.view (shown.pages c.args.self.now)) (g.P.Pages.view (shown.pages c.answer_over.new.self))
-    (λ frame. move_answered session last number window frame (state_of book total ss) (state_of book total c.answer_over.new.self.sessions) is)
+    (λ frame. move_answered session last number window frame (state_of book total ss)
+    (state_of book total c.answer_over.new.self.sessions) is)
     (reads_of_last book session last window _ _ is)
     (c.answer_over.ensures.replying total book (last.grid.t0 +ℤ c.args.by) (last.grid.t1 +ℤ c.args.by) told stands moved)
 
@@ -44,7 +48,8 @@ returns-clause-cause g c =
     let new = c.answer_over.new.self.store in
     let L : ViewSpec → Type 0 = λ l. IsLastOf session (Ok l) in
     let is : IsLastOf session (Ok last) = subst L (sym c.in_ok-last-in-Ok.ensures) c.in-Ok.ensures.last in
-    causes_so (λ id. id ≡ last.series) (IsLastShown (last_of session)) c.answer_over.result (g.P.Pages.told (stored.pages store)) (stored.catalog store) (stored.total store) (g.P.Pages.view (stored.pages store)) (g.P.Pages.view (stored.pages new))
+    causes_so (λ id. id ≡ last.series) (IsLastShown (last_of session)) c.answer_over.result (g.P.Pages.told (stored.pages store))
+    (stored.catalog store) (stored.total store) (g.P.Pages.view (stored.pages store)) (g.P.Pages.view (stored.pages new))
     (last_shown session last is) c.answer_over.ensures.cause
 
 pub returns-in-Err-clause-rooms : goal.returns-in-Err-clause-rooms
@@ -59,7 +64,8 @@ returns-clause-rooms g c =
     let is : IsLastOf (session_of number ss) (Ok last) = subst L (sym c.in_ok-last-in-Ok.ensures) c.in-Ok.ensures.last in
     let by : FitsSigned w128 c.args.by = search rules in
     let B : ℤ → Type 0 = λ by. IsMoved last.grid (last.grid.t0 +ℤ by) (last.grid.t1 +ℤ by) c.panned-grid.result in
-    let moved : IsMoved last.grid (last.grid.t0 +ℤ c.args.by) (last.grid.t1 +ℤ c.args.by) c.panned-grid.result = subst B (to_z-of_z w128 c.args.by by) c.panned-grid.ensures in
+    let moved : IsMoved last.grid (last.grid.t0 +ℤ c.args.by) (last.grid.t1 +ℤ c.args.by) c.panned-grid.result = subst B
+    (to_z-of_z w128 c.args.by by) c.panned-grid.ensures in
     keep_rooms c.answer_over.result number ss c.answer_over.new.self.sessions c.answer_over.ensures.stays.others
     (λ has. c.answer_over.ensures.rooms (last.grid.t0 +ℤ c.args.by) (last.grid.t1 +ℤ c.args.by) moved (fits_last number ss last is has) has)
 
@@ -70,4 +76,5 @@ returns-clause-last g c =
     let last = c.in_ok-last-in-Ok.last in
     let L : ViewSpec → Type 0 = λ l. IsLastOf (session_of number ss) (Ok l) in
     let is : IsLastOf (session_of number ss) (Ok last) = subst L (sym c.in_ok-last-in-Ok.ensures) c.in-Ok.ensures.last in
-    tells_more c.answer_over.result number (λ id. id ≡ last.series) (IsLastIn ss number) c.answer_over.new.self.sessions (of_last number ss last is) c.answer_over.ensures.last
+    tells_more c.answer_over.result number (λ id. id ≡ last.series) (IsLastIn ss number) c.answer_over.new.self.sessions
+    (of_last number ss last is) c.answer_over.ensures.last

@@ -41,27 +41,37 @@ edits-preserved g c =
           let h = inv.has total book told stands in
           let behind = after_edits total book (take (length before) edits) in
           let D : List Edit → Type 0 = λ l. DoesSome total behind l before now (view new).image in
-          more_done total book edits before now (view mid).image (view new).image h (subst D tail (yes.done total behind (inv.moves.told told) h.stands));
+          more_done total book edits before now (view mid).image (view new).image h
+          (subst D tail (yes.done total behind (inv.moves.told told) h.stands));
       moments = λ total book told stands.
           let h = inv.has total book told stands in
           let behind = after_edits total book (take (length before) edits) in
           let M : List Edit → Type 0 = λ l. Passes (view mid) (view new) (IsAfterSome total behind l) (Quiet (view mid)) in
-          more_passes total book edits (length before) (view first) (view mid) (view new) (inv.moments total book told stands) (subst M tail (yes.moments total behind (inv.moves.told told) h.stands));
+          more_passes total book edits (length before) (view first) (view mid) (view new) (inv.moments total book told stands)
+          (subst M tail (yes.moments total behind (inv.moves.told told) h.stands));
       reads = λ total book told stands.
           let h = inv.has total book told stands in
-          omega (arith, inv.reads total book told stands, yes.few_reads total (after_edits total book (take (length before) edits)) (inv.moves.told told) h.stands);
+          omega (
+            arith,
+            inv.reads total book told stands,
+            yes.few_reads total (after_edits total book (take (length before) edits)) (inv.moves.told told) h.stands,
+          );
       idle = λ total book told stands none.
           let h = inv.has total book told stands in
           let behind = after_edits total book (take (length before) edits) in
           let C : List Edit → Type 0 = λ l. ChangeNone total behind l → CommitsNone (view mid) (view new) in
           let so_far = inv.idle total book told stands none in
-          let now_too = subst C tail (yes.idle total behind (inv.moves.told told) h.stands) (none_later total book (length before) edits none) in
+          let now_too = subst C tail (yes.idle total behind (inv.moves.told told) h.stands)
+          (none_later total book (length before) edits none) in
           (now_too.0 ∙ so_far.0, now_too.1 ∙ so_far.1);
       syncs = λ total book told stands.
           let h = inv.has total book told stands in
           let behind = after_edits total book (take (length before) edits) in
           let D : List Edit → Type 0 = λ l. DoesSome total behind l before now (view new).image in
-          group_next total book edits before now (view new).image (view first).syncs (view mid).syncs (view new).syncs (omega (arith, c.edits-test.true, c.len.ensures)) (subst D tail (yes.done total behind (inv.moves.told told) h.stands)) c.edit_some.ensures.syncs (inv.syncs total book told stands);
+          group_next total book edits before now (view new).image (view first).syncs (view mid).syncs (view new).syncs
+          (omega (arith, c.edits-test.true, c.len.ensures))
+          (subst D tail (yes.done total behind (inv.moves.told told) h.stands)) c.edit_some.ensures.syncs
+          (inv.syncs total book told stands);
       fits = yes.fits inv.fits;
       replies = yes.replies inv.replies;
       sessions = c.edit_some.ensures.sessions ∙ inv.sessions;
@@ -75,7 +85,8 @@ pub returns-in_err-edit_some-clause-standing : goal.returns-in_err-edit_some-cla
 returns-in_err-edit_some-clause-standing g c = λ total book told stands.
     let h = c.edits.invariant.has total book told stands in
     error_goes IsOutside c.from_residual.result c.in_err-edit_some.field-0.0 c.from_residual.ensures.1
-    (c.in_err-edit_some.ensures.standing total (after_edits total book (take (length c.edits.frames.items) c.args.edits.now)) (c.edits.invariant.moves.told told) h.stands)
+    (c.in_err-edit_some.ensures.standing total (after_edits total book (take (length c.edits.frames.items) c.args.edits.now))
+    (c.edits.invariant.moves.told told) h.stands)
 
 pub returns-in_err-edit_some-clause-left : goal.returns-in_err-edit_some-clause-left
 returns-in_err-edit_some-clause-left g c = λ total book told stands other.
@@ -86,8 +97,10 @@ returns-in_err-edit_some-clause-left g c = λ total book told stands other.
     let image = (g.P.Pages.view (shown.pages c.edit_some.new.self)).image in
     let tail = tail_is edits c.len-in-edits.result count (omega (arith, c.len-in-edits.ensures, c.edits.frames.ok)) in
     let I : List Edit → Type 0 = λ l. IsAfterSome total behind l image in
-    some_replied total book edits c.args.self.now.sessions image (c.is_sound.ensures.state total book c.requires.sound told stands) (omega (arith, stands.store.small, stands.total_is)) c.requires.are_edits c.read_names.ensures
-    (after_more total book edits count image (subst I tail (c.in_err-edit_some.ensures.left total behind (c.edits.invariant.moves.told told) h.stands
+    some_replied total book edits c.args.self.now.sessions image (c.is_sound.ensures.state total book c.requires.sound told stands)
+    (omega (arith, stands.store.small, stands.total_is)) c.requires.are_edits c.read_names.ensures
+    (after_more total book edits count image (subst I tail
+    (c.in_err-edit_some.ensures.left total behind (c.edits.invariant.moves.told told) h.stands
     (λ e. other (error_is c.from_residual.result c.in_err-edit_some.field-0.0 c.from_residual.ensures.1 ∙ ap Err (err_is e))))))
 
 pub returns-in_err-edit_some-clause-moments : goal.returns-in_err-edit_some-clause-moments
@@ -101,8 +114,12 @@ returns-in_err-edit_some-clause-moments g c = λ total book told stands.
     let h = c.edits.invariant.has total book told stands in
     let behind = after_edits total book (take count edits) in
     let M : List Edit → Type 0 = λ l. Passes (view mid) (view new) (IsAfterSome total behind l) (Quiet (view mid)) in
-    some_passes total book edits c.args.self.now.sessions (view first) (view new) (c.is_sound.ensures.state total book c.requires.sound told stands) (omega (arith, stands.store.small, stands.total_is)) c.requires.are_edits c.read_names.ensures
-    (more_passes total book edits count (view first) (view mid) (view new) (c.edits.invariant.moments total book told stands) (subst M (tail_is edits c.len-in-edits.result count (omega (arith, c.len-in-edits.ensures, c.edits.frames.ok))) (c.edit_some.ensures.moments total behind (c.edits.invariant.moves.told told) h.stands)))
+    some_passes total book edits c.args.self.now.sessions (view first) (view new)
+    (c.is_sound.ensures.state total book c.requires.sound told stands)
+    (omega (arith, stands.store.small, stands.total_is)) c.requires.are_edits c.read_names.ensures
+    (more_passes total book edits count (view first) (view mid) (view new) (c.edits.invariant.moments total book told stands)
+    (subst M (tail_is edits c.len-in-edits.result count (omega (arith, c.len-in-edits.ensures, c.edits.frames.ok)))
+    (c.edit_some.ensures.moments total behind (c.edits.invariant.moves.told told) h.stands)))
 
 pub returns-in_err-edit_some-clause-reads : goal.returns-in_err-edit_some-clause-reads
 returns-in_err-edit_some-clause-reads g c = λ total book told stands.
@@ -112,25 +129,33 @@ returns-in_err-edit_some-clause-reads g c = λ total book told stands.
       arith,
       c.edits.invariant.reads total book told stands,
       c.edits.invariant.within,
-      ap length (tail_is edits c.len-in-edits.result (length c.edits.frames.items) (omega (arith, c.len-in-edits.ensures, c.edits.frames.ok))),
+      ap length (tail_is edits c.len-in-edits.result (length c.edits.frames.items)
+          (omega (arith, c.len-in-edits.ensures, c.edits.frames.ok))),
       length-drop (length c.edits.frames.items) edits,
-      c.edit_some.ensures.reads total (after_edits total book (take (length c.edits.frames.items) edits)) (c.edits.invariant.moves.told told) h.stands,
+      c.edit_some.ensures.reads total (after_edits total book (take (length c.edits.frames.items) edits))
+          (c.edits.invariant.moves.told told) h.stands,
     )
 
 pub returns-clause-reply : goal.returns-clause-reply
 returns-clause-reply g c = λ total book told stands.
-    all_done total book c.args.edits.now c.args.self.now.sessions c.edits.self.sessions c.edits.frames.items (g.P.Pages.view (shown.pages c.edits.self)).image (c.is_sound.ensures.state total book c.requires.sound told stands) (omega (arith, stands.store.small, stands.total_is)) c.requires.are_edits c.read_names.ensures
+    all_done total book c.args.edits.now c.args.self.now.sessions c.edits.self.sessions c.edits.frames.items
+    (g.P.Pages.view (shown.pages c.edits.self)).image (c.is_sound.ensures.state total book c.requires.sound told stands)
+    (omega (arith, stands.store.small, stands.total_is)) c.requires.are_edits c.read_names.ensures
     c.edits.invariant.sessions (omega (arith, c.edits-test.false, c.len.ensures)) (c.edits.invariant.has total book told stands)
 
 pub returns-clause-left : goal.returns-clause-left
 returns-clause-left g c = λ total book told stands other.
     let image = (g.P.Pages.view (shown.pages c.edits.self)).image in
-    some_replied total book c.args.edits.now c.args.self.now.sessions image (c.is_sound.ensures.state total book c.requires.sound told stands) (omega (arith, stands.store.small, stands.total_is)) c.requires.are_edits c.read_names.ensures
+    some_replied total book c.args.edits.now c.args.self.now.sessions image
+    (c.is_sound.ensures.state total book c.requires.sound told stands)
+    (omega (arith, stands.store.small, stands.total_is)) c.requires.are_edits c.read_names.ensures
     (after_first total book c.args.edits.now (length c.edits.frames.items) image (c.edits.invariant.has total book told stands).stands)
 
 pub returns-clause-moments : goal.returns-clause-moments
 returns-clause-moments g c = λ total book told stands.
-    some_passes total book c.args.edits.now c.args.self.now.sessions (g.P.Pages.view (shown.pages c.args.self.now)) (g.P.Pages.view (shown.pages c.edits.self)) (c.is_sound.ensures.state total book c.requires.sound told stands) (omega (arith, stands.store.small, stands.total_is)) c.requires.are_edits c.read_names.ensures
+    some_passes total book c.args.edits.now c.args.self.now.sessions (g.P.Pages.view (shown.pages c.args.self.now))
+    (g.P.Pages.view (shown.pages c.edits.self)) (c.is_sound.ensures.state total book c.requires.sound told stands)
+    (omega (arith, stands.store.small, stands.total_is)) c.requires.are_edits c.read_names.ensures
     (c.edits.invariant.moments total book told stands)
 
 pub returns-clause-reads : goal.returns-clause-reads
@@ -138,10 +163,12 @@ returns-clause-reads g c = λ total book told stands. omega (arith, c.edits.inva
 
 pub returns-in_err-edit_some-clause-syncs : goal.returns-in_err-edit_some-clause-syncs
 returns-in_err-edit_some-clause-syncs g c = λ total book told stands.
-    group_stop total book c.args.edits.now (length c.edits.frames.items) _ _ _ (omega (arith, c.edits-test.true, c.len.ensures)) c.edit_some.ensures.syncs (c.edits.invariant.syncs total book told stands)
+    group_stop total book c.args.edits.now (length c.edits.frames.items) _ _ _
+    (omega (arith, c.edits-test.true, c.len.ensures)) c.edit_some.ensures.syncs (c.edits.invariant.syncs total book told stands)
 
 pub returns-clause-syncs : goal.returns-clause-syncs
-returns-clause-syncs g c = λ total book told stands. group_end total book c.args.edits.now (length c.edits.frames.items) _ _ (c.edits.invariant.syncs total book told stands)
+returns-clause-syncs g c = λ total book told stands. group_end total book c.args.edits.now (length c.edits.frames.items) _ _
+    (c.edits.invariant.syncs total book told stands)
 
 pub returns-in_err-edit_some-clause-faults : goal.returns-in_err-edit_some-clause-faults
 returns-in_err-edit_some-clause-faults g c =
@@ -153,7 +180,9 @@ returns-in_err-edit_some-clause-faults g c =
     let no = c.in_err-edit_some.ensures in
     let e = c.in_err-edit_some.field-0.0 in
     fault_goes step_fault c.from_residual.result e first new c.from_residual.ensures.1
-    (counts_error e first new (c.edit_some.ensures.moves.beside ∙ inv.moves.beside) (λ is. risen_since first.faults mid.faults new.faults inv.quiet (no.disk (ap Err is))) (λ other. no.quiet_err other ∙ inv.quiet))
+    (counts_error e first new (c.edit_some.ensures.moves.beside
+    ∙ inv.moves.beside) (λ is. risen_since first.faults mid.faults new.faults inv.quiet (no.disk (ap Err is)))
+    (λ other. no.quiet_err other ∙ inv.quiet))
 
 pub returns-clause-faults : goal.returns-clause-faults
 returns-clause-faults g c =

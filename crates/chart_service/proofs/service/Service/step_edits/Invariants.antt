@@ -23,11 +23,16 @@ invariant-edits g l =
     record {
       fit : (view pages).fit;
       within : length l.frames.items ≤ length l.edits;
-      has : (total : ℕ) (book : List Series) → told first → StandsForBook (view first).image total book → HasDone total book l.edits l.frames.items (view pages).image;
-      moments : (total : ℕ) (book : List Series) → told first → StandsForBook (view first).image total book → Passes (view first) (view pages) (IsAfterSome total book l.edits) (Quiet (view first));
-      reads : (total : ℕ) (book : List Series) → told first → StandsForBook (view first).image total book → (view pages).reads ≤ (view first).reads + 96 * length l.frames.items;
-      idle : (total : ℕ) (book : List Series) → told first → StandsForBook (view first).image total book → ChangeNone total book l.edits → CommitsNone (view first) (view pages);
-      syncs : (total : ℕ) (book : List Series) → told first → StandsForBook (view first).image total book → GroupSynced total book l.edits (length l.frames.items) (view first).syncs (view pages).syncs;
+      has : (total : ℕ) (book : List Series) → told first → StandsForBook (view first).image total book
+          → HasDone total book l.edits l.frames.items (view pages).image;
+      moments : (total : ℕ) (book : List Series) → told first → StandsForBook (view first).image total book
+          → Passes (view first) (view pages) (IsAfterSome total book l.edits) (Quiet (view first));
+      reads : (total : ℕ) (book : List Series) → told first → StandsForBook (view first).image total book
+          → (view pages).reads ≤ (view first).reads + 96 * length l.frames.items;
+      idle : (total : ℕ) (book : List Series) → told first → StandsForBook (view first).image total book → ChangeNone total book l.edits
+          → CommitsNone (view first) (view pages);
+      syncs : (total : ℕ) (book : List Series) → told first → StandsForBook (view first).image total book
+          → GroupSynced total book l.edits (length l.frames.items) (view first).syncs (view pages).syncs;
       fits : All Fits l.frames.items;
       replies : All IsEditReply l.frames.items;
       sessions : l.self.sessions ≡ l.initial.self.sessions;

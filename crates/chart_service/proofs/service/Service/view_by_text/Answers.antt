@@ -24,9 +24,12 @@ returns-in-Ok-clause-replying g c = λ total book told stands.
     let old = state_of book total ss in
     let new = state_of book total ss' in
     let at = series_at book (id_of name book) in
-    replying_so (λ frame old new. RepliesToView (is_open number old.sessions) number name v.w v.h v.t0 v.t1 c.args.word filter frame old new) (λ frame old new. RepliesByText text (λ filter. RepliesToView (is_open number old.sessions) number name v.w v.h v.t0 v.t1 c.args.word filter frame old new) frame old new)
+    replying_so (λ frame old new. RepliesToView (is_open number old.sessions) number name v.w v.h v.t0 v.t1 c.args.word filter frame old
+    new) (λ frame old new. RepliesByText text (λ filter. RepliesToView
+    (is_open number old.sessions) number name v.w v.h v.t0 v.t1 c.args.word filter frame old new) frame old new)
     (ReadsBy filter v.w v.t0 v.t1 at) (ReadsByText text v.w v.t0 v.t1 at) c.view.result total book ss ss'
     (g.P.Pages.view (shown.pages c.args.self.now)) (g.P.Pages.view (shown.pages c.view.new.self))
-    (λ frame reply. spelled_view text filter (λ (f : Option (List Step)). RepliesToView (is_open number ss) number name v.w v.h v.t0 v.t1 c.args.word f frame old new) frame old new is reply)
+    (λ frame reply. spelled_view text filter (λ (f : Option (List Step)). RepliesToView
+    (is_open number ss) number name v.w v.h v.t0 v.t1 c.args.word f frame old new) frame old new is reply)
     (reads_by_text text filter v.w v.t0 v.t1 at _ _ is)
     (c.view.ensures.replying total book told stands)

@@ -9,7 +9,8 @@ abbrev pub invariant-loop-self : goal.invariant-loop-self
 invariant-loop-self g l =
     let streams = g.S.Streams in
     record {
-      partway : Partway (in_front_of (pending_of l.fn.self) (streams.left l.fn.from)) l.length l.self.spill.items (pending_of l.self) (streams.left l.from);
+      partway : Partway (in_front_of (pending_of l.fn.self) (streams.left l.fn.from)) l.length l.self.spill.items (pending_of l.self)
+          (streams.left l.from);
       given : given_of l.self ≡ given_of l.fn.self + l.length;
       forward : l.fn.self.taken ≤ l.self.taken;
       limit : l.self.limit ≡ l.fn.self.limit;

@@ -1,6 +1,8 @@
-use Rattle.std.proofs.Common.{ℕ, IfSome, List, Option, sym, true, false, ◌≡◌, ◌+◌, ◌-◌, ◌∙◌, [], Some, None, Ok, length, take, drop, ap, arith, length-drop, refl}
+use Rattle.std.proofs.Common.{ℕ, IfSome, List, Option, sym, true, false, ◌≡◌, ◌+◌, ◌-◌, ◌∙◌, [], Some, None, Ok, length, take, drop, ap}
+use Rattle.std.proofs.Common.{arith, length-drop, refl}
 use Rattle.chart_world.specs.Feed.{pending_of, Gathered}
-use Rattle.chart_world.specs.Reading.{Reading, HasFeed, HasLine, Took, told_lines, with_first, unread, in_front_of, behind_first, input_length}
+use Rattle.chart_world.specs.Reading.{Reading, HasFeed, HasLine, Took, told_lines, with_first, unread, in_front_of, behind_first}
+use Rattle.chart_world.specs.Reading.{input_length}
 use Rattle.chart_world.specs.Fronts.{StandsIn}
 use Rattle.chart_world.specs.StandsLaws.{feed_pending, stands_next}
 use Rattle.chart_world.proofs.Pending.{pending_full}
@@ -17,11 +19,28 @@ returns-in-Some g c =
     let at = c.self.inside.feed in
     let full = pending_full at.bytes.items at.start at.end at.ordered (omega (arith, at.within, at.sized, at.bytes.ok)) in
     let whole : old.taken ≡ old.given + length old.pending =
-    omega (arith, full, at.counted, at.ordered, ap (λ (r : Reading). r.taken) c.self.view_is, ap (λ (r : Reading). r.given) c.self.view_is, ap (λ (r : Reading). length r.pending) c.self.view_is) in
+    omega (
+      arith,
+      full,
+      at.counted,
+      at.ordered,
+      ap (λ (r : Reading). r.taken) c.self.view_is,
+      ap (λ (r : Reading). r.given) c.self.view_is,
+      ap (λ (r : Reading). length r.pending) c.self.view_is,
+    ) in
     let behind : length new.pending ≡ length (drop (before + 1) old.pending) = ap length c.give_pending.ensures.pending in
     let counted : new.taken ≡ new.given + length new.pending =
-    omega (arith, whole, behind, length-drop (before + 1) old.pending, c.give_pending.ensures.taken, c.give_pending.ensures.passed, here.within) in
-    let rest : unread new left ≡ behind_first (unread old left) = here_rest old.pending new.pending left before here.place here.within c.give_pending.ensures.pending in
+    omega (
+      arith,
+      whole,
+      behind,
+      length-drop (before + 1) old.pending,
+      c.give_pending.ensures.taken,
+      c.give_pending.ensures.passed,
+      here.within,
+    ) in
+    let rest : unread new left ≡ behind_first (unread old left) = here_rest old.pending new.pending left before here.place here.within
+    c.give_pending.ensures.pending in
     let feed : HasFeed (unread old left) = feed_pending old.pending left (omega (arith, here.place, here.within)) in
     let stands : (input : Option (List ℕ)) → StandsIn input old left → StandsIn input new left =
     λ input at. stands_next input left left old new rest whole counted (ap (λ n. input_length n left) c.give_pending.ensures.taken)
@@ -74,7 +93,8 @@ returns-in-Ok-None g c =
     let full = pending_full at.bytes.items at.start at.end at.ordered (omega (arith, at.within, at.sized, at.bytes.ok)) in
     let pending : pending_of c.self.inside.feed ≡ c.args.self.now.pending = ap (λ (r : Reading). r.pending) c.self.view_is in
     let none : IfSome (told_lines (unread c.args.self.now left)) (λ later. later ≡ []) =
-    rw (← pending) (no_lines (in_front_of (pending_of c.self.inside.feed) left) (c.gather.ensures.none (c.in-Ok-None.is ∙ ap Ok c.in-Ok-None.field-0-is))) in
+    rw (← pending) (no_lines (in_front_of (pending_of c.self.inside.feed) left)
+    (c.gather.ensures.none (c.in-Ok-None.is ∙ ap Ok c.in-Ok-None.field-0-is))) in
     let counted : at.taken ≡ at.taken - (at.end - at.start) + length (pending_of at) = omega (arith, full, at.counted, at.ordered) in
     let old = c.args.self.now in
     let was = c.self.inside.feed in
@@ -112,7 +132,8 @@ returns-in-Ok-None g c =
       left_on_err = tt;
       feed = λ is. absurd (off is);
       not_ended = λ is. absurd (cc (is));
-      stands = λ input stands. stands_next input left later old _ rest whole counted total (λ is. absurd (off is)) (λ is. absurd (off is)) c.in-Ok-None.ensures.ended stands;
+      stands = λ input stands. stands_next input left later old _ rest whole counted total (λ is. absurd (off is))
+          (λ is. absurd (off is)) c.in-Ok-None.ensures.ended stands;
       usable = grind (arith, full, none);
       unusable = tt;
       limit = c.gather.ensures.limit ∙ limit;
@@ -161,7 +182,8 @@ returns-then-length g c =
     let total : input_length at.taken later ≡ input_length old.taken left = rw (← taken) c.gather.ensures.total in
     let rest : after ≡ behind_first (unread old left) = rw (← pending) c.in-Ok-Some.ensures.rest in
     let Feeds : ℕ → Type 0 = λ n. at.ended ≡ false → HasFeed told in
-    let feed : at.ended ≡ false → HasFeed (unread old left) = rw (← pending) (of_value Feeds c.in-Ok-Some.field-0 c.in-Ok-Some.length c.in-Ok-Some.field-0-is c.in-Ok-Some.ensures.feed) in
+    let feed : at.ended ≡ false → HasFeed (unread old left) = rw (← pending)
+    (of_value Feeds c.in-Ok-Some.field-0 c.in-Ok-Some.length c.in-Ok-Some.field-0-is c.in-Ok-Some.ensures.feed) in
     let before : at.ended ≡ false → old.ended ≡ false = λ is. sym ended ∙ c.in-Ok-Some.ensures.begun is in
     record {
       line = grind arith;
@@ -217,7 +239,8 @@ returns g c =
     let Line : ℕ → Type 0 = λ n. IfSome told (λ bytes. Gathered n spill bytes) in
     let line = of_value Line c.in-Ok-Some.field-0 c.in-Ok-Some.length c.in-Ok-Some.field-0-is c.in-Ok-Some.ensures.line in
     let short : told_lines (unread c.args.self.now left) ≡ with_first (Some (take c.text_len-end.result spill)) (told_lines after) =
-    rw (← pending) (gathered_short told after c.in-Ok-Some.length spill (take c.text_len-end.result spill) c.if-length.false text line c.in-Ok-Some.ensures.rest) in
+    rw (← pending) (gathered_short told after c.in-Ok-Some.length spill
+    (take c.text_len-end.result spill) c.if-length.false text line c.in-Ok-Some.ensures.rest) in
     let limited = ap (λ (r : Reading). r.limit) c.self.view_is in
     let took : (HasLine c.args.self.now → ⊥) → Took (g.S.Streams.pieces c.args.from.now) (g.S.Streams.pieces c.gather.new.from) after =
     λ none. c.in-Ok-Some.ensures.took (λ has. none (rw (← given, ← pending, ← limited) has)) in
@@ -233,7 +256,8 @@ returns g c =
     let total : input_length at.taken later ≡ input_length old.taken left = rw (← taken) c.gather.ensures.total in
     let rest : after ≡ behind_first (unread old left) = rw (← pending) c.in-Ok-Some.ensures.rest in
     let Feeds : ℕ → Type 0 = λ n. at.ended ≡ false → HasFeed told in
-    let feed : at.ended ≡ false → HasFeed (unread old left) = rw (← pending) (of_value Feeds c.in-Ok-Some.field-0 c.in-Ok-Some.length c.in-Ok-Some.field-0-is c.in-Ok-Some.ensures.feed) in
+    let feed : at.ended ≡ false → HasFeed (unread old left) = rw (← pending)
+    (of_value Feeds c.in-Ok-Some.field-0 c.in-Ok-Some.length c.in-Ok-Some.field-0-is c.in-Ok-Some.ensures.feed) in
     let before : at.ended ≡ false → old.ended ≡ false = λ is. sym ended ∙ c.in-Ok-Some.ensures.begun is in
     record {
       line = λ _. short;

@@ -14,4 +14,5 @@ returns-clause-durable g c =
     let self = c.args.self.now in
     let disk = g.D.Disk.view self.disk in
     let disk' = g.D.Disk.view c.sync.new.self in
-    on_ok_weaker c.sync.result (only_timed disk' self.log.items alone (dated_later disk.clock disk'.clock self.log.items c.sync.ensures.moves.time.later self.dated)) c.sync.ensures.durable
+    on_ok_weaker c.sync.result (only_timed disk' self.log.items alone
+    (dated_later disk.clock disk'.clock self.log.items c.sync.ensures.moves.time.later self.dated)) c.sync.ensures.durable

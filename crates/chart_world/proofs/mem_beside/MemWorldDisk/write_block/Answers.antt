@@ -6,7 +6,8 @@ use Rattle.chart_world.proofs.mem_beside.MemWorldDisk.write_block.Goals as goal
 pub returns-clause-moves : goal.returns-clause-moves
 returns-clause-moves g c =
     let self = c.args.self.now in
-    moves_timed (At c.args.no) 0 0 1 (g.D.Disk.view self.disk) (g.D.Disk.view c.write_block.new.self) self.log.items _ self.dated c.write_block.ensures.moves
+    moves_timed (At c.args.no) 0 0 1 (g.D.Disk.view self.disk)
+    (g.D.Disk.view c.write_block.new.self) self.log.items _ self.dated c.write_block.ensures.moves
 
 pub returns-clause-written : goal.returns-clause-written
 returns-clause-written g c honest =

@@ -34,7 +34,8 @@ returns-then-is_in_front-clause-renewed c =
     let inside = c.self.inside.list in
     let front = c.is_in_front.ensures c.if-is_in_front.true in
     sym (ap (λ v. v.pairs) c.self.view_is)
-    ∙ sym (unmoved inside.capacity inside.pairs all front.rest c.len-length.ensures.valid.distinct c.len-length.ensures.valid.within front.is)
+    ∙ sym (unmoved inside.capacity inside.pairs all front.rest c.len-length.ensures.valid.distinct c.len-length.ensures.valid.within
+    front.is)
     ∙ (λ i. renewed (c.self.view_is i).capacity (c.self.view_is i).pairs all)
 
 pub returns-then-renew_front-clause-renewed : goal.returns-then-renew_front-clause-renewed
@@ -42,5 +43,6 @@ returns-then-renew_front-clause-renewed c =
     let all = in_series c.args.series c.args.needed.now in
     let inside = c.self.inside.list in
     let front = c.renew_front.ensures.front c.if-renew_front.true in
-    sym (renewed-front inside.capacity inside.pairs c.renew_front.new.self.pairs c.args.series c.args.needed.now c.len-length.ensures.valid.distinct c.len-length.ensures.valid.within front)
+    sym (renewed-front inside.capacity inside.pairs c.renew_front.new.self.pairs c.args.series c.args.needed.now
+    c.len-length.ensures.valid.distinct c.len-length.ensures.valid.within front)
     ∙ (λ i. renewed (c.self.view_is i).capacity (c.self.view_is i).pairs all)

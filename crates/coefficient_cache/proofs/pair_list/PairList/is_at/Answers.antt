@@ -14,4 +14,5 @@ returns c = λ t.
     ap (λ (l : List (Option (SeriesKey × Coef))). get_or l c.args.place None) (sym c.as_slice-puts.ensures.value) ∙ c.is_put_at.ensures t in
     held-found c.args.self.now.pairs (with_coef c.args.key c.args.coef)
     (ap (λ (v : Cache). coefficient_at v.pairs c.args.key) (sym c.self.view_is)
-    ∙ found-held c.self.inside.puts.items (located c.self.inside.places.items c.self.inside.numbers.entries) c.self.inside.start c.self.inside.capacity c.self.invariant.kept c.args.place c.args.key c.args.coef at)
+    ∙ found-held c.self.inside.puts.items (located c.self.inside.places.items c.self.inside.numbers.entries) c.self.inside.start
+    c.self.inside.capacity c.self.invariant.kept c.args.place c.args.key c.args.coef at)

@@ -26,4 +26,5 @@ returns c = λ _.
     let needed : List (Key × Coef) = c.args.needed.now in
     subst (λ (v : Cache). IsInFront v.pairs c.args.series needed) c.self.view_is
     (subst (λ (l : List (Option (SeriesKey × Coef))). IsInFront (reverse (shown l)) c.args.series needed) c.as_slice-puts.ensures.value
-    (front-all puts (length puts - length needed) c.args.series needed c.loop-i.i refl c.if-puts-needed.false (omega (arith, c.loop-i-test.false, c.loop-i.auto.i-end)) c.loop-i.invariant))
+    (front-all puts (length puts - length needed) c.args.series needed c.loop-i.i refl c.if-puts-needed.false
+    (omega (arith, c.loop-i-test.false, c.loop-i.auto.i-end)) c.loop-i.invariant))

@@ -6,7 +6,8 @@ use Rattle.coefficient_cache.proofs.Putting.{put-anew, new-taken}
 use Rattle.coefficient_cache.proofs.pair_list.PairList.put.Goals as goal
 
 pub add-requires-clause-new : goal.add-requires-clause-new
-add-requires-clause-new c = new-taken c.args.self.now.pairs c.make_room.new.self.pairs (c.args.self.now.capacity - 1) c.args.key c.requires c.make_room.ensures.pairs
+add-requires-clause-new c = new-taken c.args.self.now.pairs c.make_room.new.self.pairs
+    (c.args.self.now.capacity - 1) c.args.key c.requires c.make_room.ensures.pairs
 
 pub returns-clause-pairs : goal.returns-clause-pairs
 returns-clause-pairs c =

@@ -17,16 +17,23 @@ invariant_of-self c =
     let needed : List (Key × Coef) = c.args.needed.now in
     let flags : List Bool = c.in_ok-is_in_line.is_new.items in
     let line : IsInLine ps c.self.inside.numbers.entries c.line_start-start.result c.args.series needed flags =
-    subst (λ (l : List (Option (SeriesKey × Coef))). IsInLine l c.self.inside.numbers.entries c.line_start-start.result c.args.series needed flags) c.as_slice-puts.ensures.value (c.in_ok-is_in_line.ensures c.if-not-is_in_line.false) in
+    subst (λ (l : List (Option (SeriesKey × Coef))).
+    IsInLine l c.self.inside.numbers.entries c.line_start-start.result c.args.series needed flags) c.as_slice-puts.ensures.value
+    (c.in_ok-is_in_line.ensures c.if-not-is_in_line.false) in
     let held : List (Key × Coef) = held_of needed flags in
-    let keys : HasKeys ps c.args.series held = line-keys ps c.self.inside.numbers.entries c.line_start-start.result c.args.series needed flags line in
-    let begin : c.line_start-start.result ≡ length ps - length held = line-begin ps c.self.inside.numbers.entries c.line_start-start.result c.args.series needed flags line in
+    let keys : HasKeys ps c.args.series held = line-keys ps c.self.inside.numbers.entries c.line_start-start.result c.args.series needed
+    flags line in
+    let begin : c.line_start-start.result ≡ length ps - length held = line-begin ps c.self.inside.numbers.entries c.line_start-start.result
+    c.args.series needed flags line in
     let set : c.set_in_line.new.puts.items ≡ take (length ps - length held) ps ++ put_in c.args.series held =
     c.set_in_line.ensures
     ∙ ap (λ (n : ℕ). take n ps ++ put_in c.args.series (held_of needed c.deref.result.now)) begin
     ∙ ap (λ (l : List Bool). take (length ps - length held) ps ++ put_in c.args.series (held_of needed l)) c.deref.ensures.value in
-    subst (λ (l : List (Option (SeriesKey × Coef))). AreStored l c.self.inside.owners.items c.self.inside.places.items c.self.inside.numbers.entries c.self.inside.start c.self.inside.capacity) (sym set)
-    (stored-alike ps (take (length ps - length held) ps ++ put_in c.args.series held) c.self.inside.owners.items c.self.inside.places.items c.self.inside.numbers.entries c.self.inside.start c.self.inside.capacity c.self.invariant
+    subst (λ (l : List (Option (SeriesKey × Coef))).
+    AreStored l c.self.inside.owners.items c.self.inside.places.items c.self.inside.numbers.entries c.self.inside.start
+    c.self.inside.capacity) (sym set)
+    (stored-alike ps (take (length ps - length held) ps ++ put_in c.args.series held) c.self.inside.owners.items c.self.inside.places.items
+    c.self.inside.numbers.entries c.self.inside.start c.self.inside.capacity c.self.invariant
     (alike-set ps c.args.series held keys))
 
 pub returns-clause-hits : goal.returns-clause-hits
@@ -35,20 +42,27 @@ returns-clause-hits c = λ _.
     let needed : List (Key × Coef) = c.args.needed.now in
     let flags : List Bool = c.in_ok-is_in_line.is_new.items in
     let line : IsInLine ps c.self.inside.numbers.entries c.line_start-start.result c.args.series needed flags =
-    subst (λ (l : List (Option (SeriesKey × Coef))). IsInLine l c.self.inside.numbers.entries c.line_start-start.result c.args.series needed flags) c.as_slice-puts.ensures.value (c.in_ok-is_in_line.ensures c.if-not-is_in_line.false) in
+    subst (λ (l : List (Option (SeriesKey × Coef))).
+    IsInLine l c.self.inside.numbers.entries c.line_start-start.result c.args.series needed flags) c.as_slice-puts.ensures.value
+    (c.in_ok-is_in_line.ensures c.if-not-is_in_line.false) in
     let held : List (Key × Coef) = held_of needed flags in
-    let keys : HasKeys ps c.args.series held = line-keys ps c.self.inside.numbers.entries c.line_start-start.result c.args.series needed flags line in
-    let begin : c.line_start-start.result ≡ length ps - length held = line-begin ps c.self.inside.numbers.entries c.line_start-start.result c.args.series needed flags line in
+    let keys : HasKeys ps c.args.series held = line-keys ps c.self.inside.numbers.entries c.line_start-start.result c.args.series needed
+    flags line in
+    let begin : c.line_start-start.result ≡ length ps - length held = line-begin ps c.self.inside.numbers.entries c.line_start-start.result
+    c.args.series needed flags line in
     let set : c.set_in_line.new.puts.items ≡ take (length ps - length held) ps ++ put_in c.args.series held =
     c.set_in_line.ensures
     ∙ ap (λ (n : ℕ). take n ps ++ put_in c.args.series (held_of needed c.deref.result.now)) begin
     ∙ ap (λ (l : List Bool). take (length ps - length held) ps ++ put_in c.args.series (held_of needed l)) c.deref.ensures.value in
     let all : List (SeriesKey × Coef) = in_series c.args.series needed in
     ap (λ (l : List (Option (SeriesKey × Coef))). reverse (shown l)) set
-    ∙ renewed-line (reverse (shown ps)) (reverse (shown (take (length ps - length held) ps ++ put_in c.args.series held))) c.args.series needed flags
-    (valid ps (located c.self.inside.places.items c.self.inside.numbers.entries) c.self.inside.start c.self.inside.capacity c.self.invariant.kept).distinct
+    ∙ renewed-line (reverse (shown ps)) (reverse (shown (take (length ps - length held) ps ++ put_in c.args.series held))) c.args.series
+    needed flags
+    (valid ps (located c.self.inside.places.items c.self.inside.numbers.entries) c.self.inside.start c.self.inside.capacity
+    c.self.invariant.kept).distinct
     (renews-front ps c.args.series held keys)
-    (line-flags ps c.self.inside.owners.items c.self.inside.places.items c.self.inside.numbers.entries c.self.inside.start c.self.inside.capacity c.line_start-start.result c.args.series needed flags c.self.invariant line)
+    (line-flags ps c.self.inside.owners.items c.self.inside.places.items c.self.inside.numbers.entries c.self.inside.start
+    c.self.inside.capacity c.line_start-start.result c.args.series needed flags c.self.invariant line)
     ∙ (λ i. reverse (hits (c.self.view_is i).pairs all) ++ others (c.self.view_is i).pairs all)
 
 pub returns-clause-news : goal.returns-clause-news
@@ -57,6 +71,9 @@ returns-clause-news c = λ _.
     let needed : List (Key × Coef) = c.args.needed.now in
     let flags : List Bool = c.in_ok-is_in_line.is_new.items in
     let line : IsInLine ps c.self.inside.numbers.entries c.line_start-start.result c.args.series needed flags =
-    subst (λ (l : List (Option (SeriesKey × Coef))). IsInLine l c.self.inside.numbers.entries c.line_start-start.result c.args.series needed flags) c.as_slice-puts.ensures.value (c.in_ok-is_in_line.ensures c.if-not-is_in_line.false) in
-    line-flags ps c.self.inside.owners.items c.self.inside.places.items c.self.inside.numbers.entries c.self.inside.start c.self.inside.capacity c.line_start-start.result c.args.series needed flags c.self.invariant line
+    subst (λ (l : List (Option (SeriesKey × Coef))).
+    IsInLine l c.self.inside.numbers.entries c.line_start-start.result c.args.series needed flags) c.as_slice-puts.ensures.value
+    (c.in_ok-is_in_line.ensures c.if-not-is_in_line.false) in
+    line-flags ps c.self.inside.owners.items c.self.inside.places.items c.self.inside.numbers.entries c.self.inside.start
+    c.self.inside.capacity c.line_start-start.result c.args.series needed flags c.self.invariant line
     ∙ (λ i. are_new (c.self.view_is i).pairs (in_series c.args.series needed))

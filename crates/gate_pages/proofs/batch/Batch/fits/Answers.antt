@@ -13,8 +13,15 @@ returns-then-index-count c =
     let self = c.args.self.now in
     let i = c.loop-i.i in
     let within : self.len ≤ length self.pages.items = omega (arith, self.within, self.room) in
-    let here = number_at self.len self.pages.items i c.index.result.now c.loop-i-test.true within c.index.ensures in
-    (λ nope. absurd (nothing nope), λ all. absurd (omega (arith, below_at c.args.count (entries self) i (omega (arith, c.loop-i-test.true, length_entries self.len self.pages.items within)) all, here, c.if-index-count.true)))
+    let here = number_at self.len self.pages.items i c.index.result.now c.loop-i-test.true within c.index.ensures in (
+      λ nope. absurd (nothing nope),
+      λ all. absurd (omega (
+        arith,
+        below_at c.args.count (entries self) i (omega (arith, c.loop-i-test.true, length_entries self.len self.pages.items within)) all,
+        here,
+        c.if-index-count.true,
+      )),
+    )
 
 pub loop-i-preserved : goal.loop-i-preserved
 loop-i-preserved c =
@@ -35,5 +42,13 @@ loop-i-preserved c =
 pub returns : goal.returns
 returns c =
     let self = c.args.self.now in
-    let within : self.len ≤ length self.pages.items = omega (arith, self.within, self.room) in
-    (λ yes_all. pages_below c.args.count (entries self) (λ at below. c.loop-i.invariant.below at (omega (arith, below, c.loop-i-test.false, length_entries self.len self.pages.items within))), λ all. refl)
+    let within : self.len ≤ length self.pages.items = omega (arith, self.within, self.room) in (
+      λ yes_all. pages_below c.args.count (entries self)
+          (λ at below. c.loop-i.invariant.below at (omega (
+            arith,
+            below,
+            c.loop-i-test.false,
+            length_entries self.len self.pages.items within,
+          ))),
+      λ all. refl,
+    )

@@ -21,7 +21,8 @@ returns c =
     let at = c.place-at.result in
     let within : len ≤ length pages = omega (arith, self.within, self.room) in
     let below : at < len = omega (arith, c.place-at.ensures.within, c.if-at-self.false) in
-    let some = some_there len at c.args.p pages within c.place-at.ensures.within c.place-at.ensures.before below (c.place-at.ensures.found below) in
+    let some = some_there len at c.args.p pages within c.place-at.ensures.within c.place-at.ensures.before below
+    (c.place-at.ensures.found below) in
     let page = c.index.result.now in
     let there = entry_at len pages at page below within ∙ ap entry_of (sym c.index.ensures) in
     ap (λ (b : List ℕ). Some b) c.as_slice.ensures.value

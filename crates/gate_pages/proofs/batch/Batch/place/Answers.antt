@@ -8,7 +8,8 @@ pub loop-at-preserved : goal.loop-at-preserved
 loop-at-preserved c =
     let self = c.args.self.now in
     let at = c.loop-at.at in
-    let here = number_at self.len self.pages.items at c.index.result.now c.loop-at-test.true (omega (arith, self.within, self.room)) c.index.ensures in
+    let here = number_at self.len self.pages.items at c.index.result.now c.loop-at-test.true
+    (omega (arith, self.within, self.room)) c.index.ensures in
     record {
       within = omega (arith, c.loop-at-test.true);
       before = λ k below. elim (cases_lt k at) [

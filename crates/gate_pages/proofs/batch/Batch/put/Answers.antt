@@ -1,4 +1,5 @@
-use Rattle.std.proofs.Common.{◌≡◌, ◌∙◌, ℕ, ◌+◌, ◌≤◌, ◌<◌, cond, List, length, set, Option, Some, None, is_some, IsTrue, sym, ap, arith, rules, inl, inr}
+use Rattle.std.proofs.Common.{◌≡◌, ◌∙◌, ℕ, ◌+◌, ◌≤◌, ◌<◌, cond, List, length, set, Option, Some, None, is_some, IsTrue, sym, ap, arith}
+use Rattle.std.proofs.Common.{rules, inl, inr}
 use Rattle.std.proofs.lemmas.Bool.{cases_lt}
 use Rattle.std.proofs.lemmas.List.{length-set}
 use Rattle.gate_pages.specs.Batch.{page_in}
@@ -22,7 +23,8 @@ index_mut-page-requires c =
       | inr above ↦
           let is : at ≡ len = omega (arith, above, c.place-at.ensures.within) in
           elim c.requires.room [
-            | inl some ↦ absurd (nothing (page_in (entries self) c.args.p) (none_there len at c.args.p pages within c.place-at.ensures.within c.place-at.ensures.before is) some)
+            | inl some ↦ absurd (nothing (page_in (entries self) c.args.p)
+                (none_there len at c.args.p pages within c.place-at.ensures.within c.place-at.ensures.before is) some)
             | inr less ↦ omega (arith, less, is, length_entries len pages within)
           ]
     ] in
@@ -37,13 +39,15 @@ invariant_of-self c =
     let within : len ≤ length pages = omega (arith, self.within, self.room) in
     let is = c.if-at-self.true in
     let less : len < 64 = elim c.requires.room [
-      | inl some ↦ absurd (nothing (page_in (entries self) c.args.p) (none_there len at c.args.p pages within c.place-at.ensures.within c.place-at.ensures.before is) some)
+      | inl some ↦ absurd (nothing (page_in (entries self) c.args.p)
+          (none_there len at c.args.p pages within c.place-at.ensures.within c.place-at.ensures.before is) some)
       | inr fewer ↦ omega (arith, fewer, length_entries len pages within)
     ] in
     record {
       room = length-set pages at c.set.new.self ∙ self.room;
       within = omega (arith, less);
-      distinct = added_distinct len at c.args.p pages within c.place-at.ensures.within c.place-at.ensures.before c.set.new.self c.args.bytes.now c.set.ensures.number c.set.ensures.bytes is (omega (arith, less, self.room)) self.distinct;
+      distinct = added_distinct len at c.args.p pages within c.place-at.ensures.within c.place-at.ensures.before c.set.new.self
+          c.args.bytes.now c.set.ensures.number c.set.ensures.bytes is (omega (arith, less, self.room)) self.distinct;
     }
 
 pub invariant_of-self-else-at-self : goal.invariant_of-self-else-at-self
@@ -57,7 +61,8 @@ invariant_of-self-else-at-self c =
     record {
       room = length-set pages at c.set.new.self ∙ self.room;
       within = self.within;
-      distinct = kept_distinct len at c.args.p pages within c.place-at.ensures.within c.place-at.ensures.before c.set.new.self c.args.bytes.now c.set.ensures.number c.set.ensures.bytes below (c.place-at.ensures.found below) self.distinct;
+      distinct = kept_distinct len at c.args.p pages within c.place-at.ensures.within c.place-at.ensures.before c.set.new.self
+          c.args.bytes.now c.set.ensures.number c.set.ensures.bytes below (c.place-at.ensures.found below) self.distinct;
     }
 
 pub returns-then-at-self-clause-page : goal.returns-then-at-self-clause-page
@@ -69,10 +74,12 @@ returns-then-at-self-clause-page c number =
     let within : len ≤ length pages = omega (arith, self.within, self.room) in
     let is = c.if-at-self.true in
     let less : len < 64 = elim c.requires.room [
-      | inl some ↦ absurd (nothing (page_in (entries self) c.args.p) (none_there len at c.args.p pages within c.place-at.ensures.within c.place-at.ensures.before is) some)
+      | inl some ↦ absurd (nothing (page_in (entries self) c.args.p)
+          (none_there len at c.args.p pages within c.place-at.ensures.within c.place-at.ensures.before is) some)
       | inr fewer ↦ omega (arith, fewer, length_entries len pages within)
     ] in
-    added_page len at c.args.p pages within c.place-at.ensures.within c.place-at.ensures.before c.set.new.self c.args.bytes.now c.set.ensures.number c.set.ensures.bytes number is (omega (arith, less, self.room))
+    added_page len at c.args.p pages within c.place-at.ensures.within c.place-at.ensures.before c.set.new.self c.args.bytes.now
+    c.set.ensures.number c.set.ensures.bytes number is (omega (arith, less, self.room))
 
 pub returns-then-at-self-clause-len : goal.returns-then-at-self-clause-len
 returns-then-at-self-clause-len c =
@@ -83,7 +90,8 @@ returns-then-at-self-clause-len c =
     let within : len ≤ length pages = omega (arith, self.within, self.room) in
     let is = c.if-at-self.true in
     let less : len < 64 = elim c.requires.room [
-      | inl some ↦ absurd (nothing (page_in (entries self) c.args.p) (none_there len at c.args.p pages within c.place-at.ensures.within c.place-at.ensures.before is) some)
+      | inl some ↦ absurd (nothing (page_in (entries self) c.args.p)
+          (none_there len at c.args.p pages within c.place-at.ensures.within c.place-at.ensures.before is) some)
       | inr fewer ↦ omega (arith, fewer, length_entries len pages within)
     ] in
     let none = none_there len at c.args.p pages within c.place-at.ensures.within c.place-at.ensures.before is in
@@ -100,7 +108,8 @@ returns-else-at-self-clause-page c number =
     let at = c.place-at.result in
     let within : len ≤ length pages = omega (arith, self.within, self.room) in
     let below : at < len = omega (arith, c.place-at.ensures.within, c.if-at-self.false) in
-    kept_page len at c.args.p pages within c.place-at.ensures.within c.place-at.ensures.before c.set.new.self c.args.bytes.now c.set.ensures.number c.set.ensures.bytes number below (c.place-at.ensures.found below)
+    kept_page len at c.args.p pages within c.place-at.ensures.within c.place-at.ensures.before c.set.new.self c.args.bytes.now
+    c.set.ensures.number c.set.ensures.bytes number below (c.place-at.ensures.found below)
 
 pub returns-else-at-self-clause-len : goal.returns-else-at-self-clause-len
 returns-else-at-self-clause-len c =
@@ -110,7 +119,8 @@ returns-else-at-self-clause-len c =
     let at = c.place-at.result in
     let within : len ≤ length pages = omega (arith, self.within, self.room) in
     let below : at < len = omega (arith, c.place-at.ensures.within, c.if-at-self.false) in
-    let some = some_there len at c.args.p pages within c.place-at.ensures.within c.place-at.ensures.before below (c.place-at.ensures.found below) in
+    let some = some_there len at c.args.p pages within c.place-at.ensures.within c.place-at.ensures.before below
+    (c.place-at.ensures.found below) in
     let all : len ≤ length (set pages at c.set.new.self) = omega (arith, length-set pages at c.set.new.self, within) in
     length_entries len (set pages at c.set.new.self) all ∙ sym (length_entries len pages within)
     ∙ sym (ap (λ (o : Option (List ℕ)). cond (is_some o) (length (entries self)) (length (entries self) + 1)) some)

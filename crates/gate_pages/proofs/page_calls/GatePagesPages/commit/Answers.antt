@@ -14,18 +14,22 @@ pub returns-in_err-redo-clause-commits : goal.returns-in_err-redo-clause-commits
 returns-in_err-redo-clause-commits g c =
     let self = c.args.self.now in
     let batch = entries c.args.batch.now in
-    commits_batch self.count self.sound false batch (g.D.Disk.view self.disk) (g.D.Disk.view c.redo.new.disk) c.redo.ensures.moves (c.redo.ensures.moments self.count (numbers_below self.count batch c.requires.below))
+    commits_batch self.count self.sound false batch (g.D.Disk.view self.disk) (g.D.Disk.view c.redo.new.disk) c.redo.ensures.moves
+    (c.redo.ensures.moments self.count (numbers_below self.count batch c.requires.below))
 
 pub returns-clause-commits : goal.returns-clause-commits
 returns-clause-commits g c =
     let self = c.args.self.now in
     let batch = entries c.args.batch.now in
-    commits_batch self.count self.sound true batch (g.D.Disk.view self.disk) (g.D.Disk.view c.redo.new.disk) c.redo.ensures.moves (c.redo.ensures.moments self.count (numbers_below self.count batch c.requires.below))
+    commits_batch self.count self.sound true batch (g.D.Disk.view self.disk) (g.D.Disk.view c.redo.new.disk) c.redo.ensures.moves
+    (c.redo.ensures.moments self.count (numbers_below self.count batch c.requires.below))
 
 pub returns-clause-done : goal.returns-clause-done
 returns-clause-done g c honest =
     let self = c.args.self.now in
-    committed self.count (entries c.args.batch.now) (g.D.Disk.view self.disk) (g.D.Disk.view c.redo.new.disk) (self.at_rest c.requires.sound) c.in_ok-redo.ensures.closed honest (c.redo.ensures.moves.honest honest) (c.in_ok-redo.ensures.done honest)
+    committed self.count (entries c.args.batch.now) (g.D.Disk.view self.disk) (g.D.Disk.view c.redo.new.disk)
+    (self.at_rest c.requires.sound) c.in_ok-redo.ensures.closed honest (c.redo.ensures.moves.honest honest)
+    (c.in_ok-redo.ensures.done honest)
 
 pub returns-then-len-eq0-clause-commits : goal.returns-then-len-eq0-clause-commits
 returns-then-len-eq0-clause-commits g c =

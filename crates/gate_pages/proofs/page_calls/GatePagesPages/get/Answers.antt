@@ -4,7 +4,8 @@ use Rattle.gate_pages.proofs.page_calls.GatePagesPages.get.Goals as goal
 pub returns-clause-page : goal.returns-clause-page
 returns-clause-page g c honest =
     let self = c.args.self.now in
-    page_read self.count (g.D.Disk.view self.disk) c.args.p c.read_block.new.out (self.at_rest c.requires.sound) honest (c.in_ok-read_block.ensures.bytes honest)
+    page_read self.count (g.D.Disk.view self.disk) c.args.p c.read_block.new.out (self.at_rest c.requires.sound) honest
+    (c.in_ok-read_block.ensures.bytes honest)
 
 pub returns-clause-reads : goal.returns-clause-reads
 returns-clause-reads g c =

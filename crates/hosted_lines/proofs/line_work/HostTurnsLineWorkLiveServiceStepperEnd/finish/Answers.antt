@@ -14,4 +14,5 @@ returns-clause-does g c = λ stand stands.
     let it = c.args.from.now in
     let edits = c.args.self.now.edits.items in
     let S : List (Option (List ℕ)) → Type 0 = λ l. SpellEdits l edits in
-    stand_keeps edits (shown.IsTold (its.service it)) (its.view it) (held_by it) (g.P.Streams.sent (pages it)) EndOf [] refl (λ ahead. tt) edits (λ lines spell. subst S (sym (append-nil lines)) spell) stand stands
+    stand_keeps edits (shown.IsTold (its.service it)) (its.view it) (held_by it) (g.P.Streams.sent (pages it)) EndOf [] refl
+    (λ ahead. tt) edits (λ lines spell. subst S (sym (append-nil lines)) spell) stand stands

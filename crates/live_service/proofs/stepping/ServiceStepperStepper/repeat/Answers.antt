@@ -4,4 +4,5 @@ use Rattle.live_service.proofs.stepping.ServiceStepperStepper.repeat.Goals as go
 
 pub returns-clause-lost : goal.returns-clause-lost
 returns-clause-lost g c =
-    line_lost (Some c.args.session) c.repeat.result c.args.self.now.service.sessions c.repeat.new.self.sessions c.cache-cache.ensures.valid c.repeat.ensures.sessions
+    line_lost (Some c.args.session) c.repeat.result c.args.self.now.service.sessions c.repeat.new.self.sessions c.cache-cache.ensures.valid
+    c.repeat.ensures.sessions

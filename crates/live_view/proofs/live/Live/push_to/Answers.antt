@@ -22,9 +22,11 @@ invariant_of-self g c =
       few = c.args.self.now.few;
       opened = c.args.self.now.opened;
       named = c.args.self.now.named;
-      queue = so-too IsStrictlyIncreasing pushed c.followers.result.items queued (followers-rise series sessions followed c.args.self.now.rising);
+      queue = so-too IsStrictlyIncreasing pushed c.followers.result.items queued
+          (followers-rise series sessions followed c.args.self.now.rising);
       viewed = so-too (HaveViews sessions) pushed c.followers.result.items queued (followers-viewed series sessions followed);
-      queued = so-too ArePositive pushed c.followers.result.items queued (followers-all (λ n. 1 ≤ n) series sessions followed c.args.self.now.named);
+      queued = so-too ArePositive pushed c.followers.result.items queued
+          (followers-all (λ n. 1 ≤ n) series sessions followed c.args.self.now.named);
       able = c.args.self.now.able;
       among = so-too (AreAmong followed) pushed c.followers.result.items queued (own-among series sessions followed);
     }

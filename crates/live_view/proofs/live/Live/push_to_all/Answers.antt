@@ -21,9 +21,11 @@ invariant_of-self g c =
       few = c.args.self.now.few;
       opened = c.args.self.now.opened;
       named = c.args.self.now.named;
-      queue = so-too IsStrictlyIncreasing pushed c.viewed_among.result.items queued (IsStrictlyIncreasing-filter (λ n. has_view n sessions) followed c.args.self.now.rising);
+      queue = so-too IsStrictlyIncreasing pushed c.viewed_among.result.items queued
+          (IsStrictlyIncreasing-filter (λ n. has_view n sessions) followed c.args.self.now.rising);
       viewed = so-too (HaveViews sessions) pushed c.viewed_among.result.items queued (filter_passes (λ n. has_view n sessions) followed);
-      queued = so-too ArePositive pushed c.viewed_among.result.items queued (All-filter (λ n. has_view n sessions) (λ n. 1 ≤ n) followed c.args.self.now.named);
+      queued = so-too ArePositive pushed c.viewed_among.result.items queued
+          (All-filter (λ n. has_view n sessions) (λ n. 1 ≤ n) followed c.args.self.now.named);
       able = c.args.self.now.able;
       among = so-too (AreAmong followed) pushed c.viewed_among.result.items queued (viewed-among sessions followed);
     }

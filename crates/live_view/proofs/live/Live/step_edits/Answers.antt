@@ -26,9 +26,11 @@ invariant_of-self-in-Ok g c =
       few = c.args.self.now.few;
       opened = subst O (sym c.step_edits.ensures.same_sessions) c.args.self.now.opened;
       named = c.args.self.now.named;
-      queue = so-too IsStrictlyIncreasing pushed c.in_ok-pushed-in-Ok.pushed.items is (group-rises to.series new followed c.args.self.now.rising);
+      queue = so-too IsStrictlyIncreasing pushed c.in_ok-pushed-in-Ok.pushed.items is
+          (group-rises to.series new followed c.args.self.now.rising);
       viewed = so-too (HaveViews new) pushed c.in_ok-pushed-in-Ok.pushed.items is (group-viewed to.series new followed);
-      queued = so-too ArePositive pushed c.in_ok-pushed-in-Ok.pushed.items is (group-all (λ n. 1 ≤ n) to.series new followed c.args.self.now.named);
+      queued = so-too ArePositive pushed c.in_ok-pushed-in-Ok.pushed.items is
+          (group-all (λ n. 1 ≤ n) to.series new followed c.args.self.now.named);
       able = subst C (sym c.step_edits.ensures.same_sessions) c.args.self.now.able;
       among = so-too (AreAmong followed) pushed c.in_ok-pushed-in-Ok.pushed.items is (group-among to.series new followed);
     }

@@ -7,7 +7,8 @@ use Rattle.live_view.specs.Replies.{ended, still_followed, followers}
 use Rattle.live_view.specs.Numbers.{ArePositive}
 use Rattle.live_view.specs.Sessions.{AreOpen, HaveViews, open_among}
 use Rattle.live_view.proofs.NumberLemmas.{so-too, some-few}
-use Rattle.live_view.proofs.PassingLemmas.{still-rises, still-few, still-all, passed-open, followers-rise, followers-viewed, followers-all, none-viewed}
+use Rattle.live_view.proofs.PassingLemmas.{still-rises, still-few, still-all, passed-open, followers-rise, followers-viewed, followers-all}
+use Rattle.live_view.proofs.PassingLemmas.{none-viewed}
 use Rattle.live_view.specs.Following.{AreAble}
 use Rattle.live_view.proofs.CanLemmas.{able-all, among-so, can-all, followers-among, goes-means, none-among, open-can, still-can}
 use Rattle.live_view.proofs.live.Live.step_other.Goals as goal
@@ -25,16 +26,25 @@ invariant_of-self g c =
     let pushed : List ℕ = followers series new followed in
     let queued : c.followers.result.items ≡ pushed = c.followers.ensures ∙ ap (followers series new) copied in
     record {
-      rising = so-too IsStrictlyIncreasing left c.end_following.new.followed.items is (still-rises (ended meaning c.in-Ok.frame) followed c.args.self.now.rising);
-      few = so-too (λ l. length l ≤ 16) left c.end_following.new.followed.items is (still-few (ended meaning c.in-Ok.frame) followed c.args.self.now.few);
-      opened = so-too (AreOpen new) left c.end_following.new.followed.items is (passed-open meaning c.in-Ok.frame old new followed c.in-Ok.ensures.opens c.args.self.now.opened);
-      named = so-too ArePositive left c.end_following.new.followed.items is (still-all (λ n. 1 ≤ n) (ended meaning c.in-Ok.frame) followed c.args.self.now.named);
-      queue = so-too IsStrictlyIncreasing pushed c.followers.result.items queued (followers-rise series new followed c.args.self.now.rising);
+      rising = so-too IsStrictlyIncreasing left c.end_following.new.followed.items is
+          (still-rises (ended meaning c.in-Ok.frame) followed c.args.self.now.rising);
+      few = so-too (λ l. length l ≤ 16) left c.end_following.new.followed.items is
+          (still-few (ended meaning c.in-Ok.frame) followed c.args.self.now.few);
+      opened = so-too (AreOpen new) left c.end_following.new.followed.items is
+          (passed-open meaning c.in-Ok.frame old new followed c.in-Ok.ensures.opens c.args.self.now.opened);
+      named = so-too ArePositive left c.end_following.new.followed.items is
+          (still-all (λ n. 1 ≤ n) (ended meaning c.in-Ok.frame) followed c.args.self.now.named);
+      queue = so-too IsStrictlyIncreasing pushed c.followers.result.items queued
+          (followers-rise series new followed c.args.self.now.rising);
       viewed = so-too (HaveViews new) pushed c.followers.result.items queued (followers-viewed series new followed);
-      queued = so-too ArePositive pushed c.followers.result.items queued (followers-all (λ n. 1 ≤ n) series new followed c.args.self.now.named);
+      queued = so-too ArePositive pushed c.followers.result.items queued
+          (followers-all (λ n. 1 ≤ n) series new followed c.args.self.now.named);
       able = so-too (AreAble new) left c.end_following.new.followed.items is
-          (able-all new left (still-can (ended meaning c.in-Ok.frame) followed old new (goes-means meaning _ c.in-Ok.frame old new c.in_ok-meaning.ensures c.in-Ok.ensures.goes) (can-all old followed c.args.self.now.able)));
-      among = among-so left c.end_following.new.followed.items pushed c.followers.result.items is queued (followers-among (g.S.Stepper.names c.step_line.new.self) meaning c.in-Ok.frame series new followed c.changed-series.ensures);
+          (able-all new left (still-can (ended meaning c.in-Ok.frame) followed old new
+          (goes-means meaning _ c.in-Ok.frame old new c.in_ok-meaning.ensures c.in-Ok.ensures.goes)
+          (can-all old followed c.args.self.now.able)));
+      among = among-so left c.end_following.new.followed.items pushed c.followers.result.items is queued
+          (followers-among (g.S.Stepper.names c.step_line.new.self) meaning c.in-Ok.frame series new followed c.changed-series.ensures);
     }
 
 pub invariant_of-self-in-Err : goal.invariant_of-self-in-Err
@@ -44,13 +54,17 @@ invariant_of-self-in-Err g c =
     let followed : List ℕ = c.args.self.now.followed.items in
     let left : List ℕ = open_among new followed in
     record {
-      rising = so-too IsStrictlyIncreasing left c.keep_open.new.numbers.items c.keep_open.ensures (IsStrictlyIncreasing-filter (λ n. is_open n new) followed c.args.self.now.rising);
-      few = so-too (λ l. length l ≤ 16) left c.keep_open.new.numbers.items c.keep_open.ensures (some-few (λ n. is_open n new) followed c.args.self.now.few);
+      rising = so-too IsStrictlyIncreasing left c.keep_open.new.numbers.items c.keep_open.ensures
+          (IsStrictlyIncreasing-filter (λ n. is_open n new) followed c.args.self.now.rising);
+      few = so-too (λ l. length l ≤ 16) left c.keep_open.new.numbers.items c.keep_open.ensures
+          (some-few (λ n. is_open n new) followed c.args.self.now.few);
       opened = so-too (AreOpen new) left c.keep_open.new.numbers.items c.keep_open.ensures (filter_passes (λ n. is_open n new) followed);
-      named = so-too ArePositive left c.keep_open.new.numbers.items c.keep_open.ensures (All-filter (λ n. is_open n new) (λ n. 1 ≤ n) followed c.args.self.now.named);
+      named = so-too ArePositive left c.keep_open.new.numbers.items c.keep_open.ensures
+          (All-filter (λ n. is_open n new) (λ n. 1 ≤ n) followed c.args.self.now.named);
       queue = c.args.self.now.queue;
       viewed = so-too (HaveViews new) [] c.args.self.now.pending.items c.requires.idle (none-viewed new);
       queued = c.args.self.now.queued;
-      able = so-too (AreAble new) left c.keep_open.new.numbers.items c.keep_open.ensures (able-all new left (open-can followed old new c.in-Err.ensures.lost (can-all old followed c.args.self.now.able)));
+      able = so-too (AreAble new) left c.keep_open.new.numbers.items c.keep_open.ensures
+          (able-all new left (open-can followed old new c.in-Err.ensures.lost (can-all old followed c.args.self.now.able)));
       among = none-among c.keep_open.new.numbers.items c.args.self.now.pending.items c.requires.idle;
     }

@@ -26,7 +26,8 @@ invariant_of-self-2 c =
     record {
       own = owns_new g c.self.inside.rows.items c.push.new.self.items _ _ c.args.t c.args.v
           (to_z-of_z w64 c.border-self-inside.result from_fits ∙ c.border-self-inside.ensures.value ∙ ap (border g) column_is)
-          (to_z-of_z w64 c.border-self-inside-2.result next_fits ∙ c.border-self-inside-2.ensures.value ∙ ap (λ k. border g (k + 1)) column_is)
+          (to_z-of_z w64 c.border-self-inside-2.result next_fits ∙ c.border-self-inside-2.ensures.value
+          ∙ ap (λ k. border g (k + 1)) column_is)
           (new_rows c.self.inside.rows.items c.push.new.self.items c.column_of-column.result (column g c.args.t) c.args.v c.of_one.result
           column_is (subst N (sym c.self.view_is) c.requires.other) (simp to_z-of_z at c.of_one.ensures) c.in_ok-push.ensures.items);
     }

@@ -13,7 +13,8 @@ invariant_of-self c =
     let L : Gathered → Type 0 = λ s. last_column s.rows ≡ Some (column s.grid c.args.t) in
     let last_is = subst L (sym c.self.view_is) c.requires.own in
     record {
-      own = owns_more c.self.inside.grid c.self.inside.rows.items c.extend_last.new.rows.items c.self.inside.from c.self.inside.next c.args.t c.args.v
+      own = owns_more c.self.inside.grid c.self.inside.rows.items c.extend_last.new.rows.items c.self.inside.from c.self.inside.next
+          c.args.t c.args.v
           c.self.invariant.own last_is (simp to_z-of_z at (c.extend_last.ensures (column c.self.inside.grid c.args.t) last_is));
     }
 

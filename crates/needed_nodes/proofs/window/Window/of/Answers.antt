@@ -16,7 +16,8 @@ invariant_of-result-clause-range c = order_back c.args.lo c.args.hi (search rule
 
 pub invariant_of-result-clause-start : goal.invariant_of-result-clause-start
 invariant_of-result-clause-start c =
-    window_start c.args.axis c.args.grid 0 c.slot_range-from.result.0 refl (c.borders_part_columns.ensures.first c.args.grid) c.slot_range-from.ensures.from
+    window_start c.args.axis c.args.grid 0 c.slot_range-from.result.0 refl
+    (c.borders_part_columns.ensures.first c.args.grid) c.slot_range-from.ensures.from
 
 pub invariant_of-result-clause-stop : goal.invariant_of-result-clause-stop
 invariant_of-result-clause-stop c =
@@ -26,7 +27,9 @@ invariant_of-result-clause-stop c =
 pub returns-else-from-end-clause-none : goal.returns-else-from-end-clause-none
 returns-else-from-end-clause-none c =
     none_shown c.args.axis c.args.grid c.slot_range-from.result.0 c.slot_range-end.result.1
-    (window_start c.args.axis c.args.grid 0 c.slot_range-from.result.0 refl (c.borders_part_columns.ensures.first c.args.grid) c.slot_range-from.ensures.from)
-    (window_stop c.args.axis c.args.grid (c.w.result - 1) c.slot_range-end.result.1 (omega (arith, c.w.ensures.value, c.args.grid.wide.some))
+    (window_start c.args.axis c.args.grid 0 c.slot_range-from.result.0 refl
+    (c.borders_part_columns.ensures.first c.args.grid) c.slot_range-from.ensures.from)
+    (window_stop c.args.axis c.args.grid (c.w.result - 1) c.slot_range-end.result.1
+    (omega (arith, c.w.ensures.value, c.args.grid.wide.some))
     (c.borders_part_columns.ensures.last c.args.grid) c.slot_range-end.ensures.to)
     (omega (arith, c.if-from-end.false))

@@ -22,19 +22,22 @@ unreachable-requires c =
     omega (arith, less, self.many, self.whole, self.room, self.bytes.ok.0, c.requires.whole, c.in_default.ensures.full)
 
 pub invariant_of-self-clause-many : goal.invariant_of-self-clause-many
-invariant_of-self-clause-many c = length-set c.args.self.now.places.items c.args.at (Some (record { page = c.args.p; copy = c.len.result / 4096; level = 0 })) ∙ c.args.self.now.many
+invariant_of-self-clause-many c = length-set c.args.self.now.places.items c.args.at
+    (Some (record { page = c.args.p; copy = c.len.result / 4096; level = 0 })) ∙ c.args.self.now.many
 
 pub invariant_of-self-clause-whole : goal.invariant_of-self-clause-whole
 invariant_of-self-clause-whole c =
     let self = c.args.self.now in
-    let more = filled_more self.places.items c.args.at (record { page = c.args.p; copy = c.len.result / 4096; level = 0 }) (omega (arith, c.requires.place, place_below c.args.p, self.many)) c.requires.none in
+    let more = filled_more self.places.items c.args.at (record { page = c.args.p; copy = c.len.result / 4096; level = 0 })
+    (omega (arith, c.requires.place, place_below c.args.p, self.many)) c.requires.none in
     omega (arith, more, self.whole, c.requires.whole, ap length c.in-Ok.ensures.items, length-append self.bytes.items c.args.bytes.now)
 
 pub invariant_of-self-clause-kept : goal.invariant_of-self-clause-kept
 invariant_of-self-clause-kept c =
     let self = c.args.self.now in
     let last : c.len.result / 4096 ≡ filled self.places.items = omega (arith, self.whole, c.len.ensures, self.bytes.ok.0) in
-    kept_first self.places.items c.args.at (record { page = c.args.p; copy = c.len.result / 4096; level = 0 }) (omega (arith, c.requires.place, place_below c.args.p, self.many)) c.requires.none last self.kept
+    kept_first self.places.items c.args.at (record { page = c.args.p; copy = c.len.result / 4096; level = 0 })
+    (omega (arith, c.requires.place, place_below c.args.p, self.many)) c.requires.none last self.kept
 
 pub returns : goal.returns
 returns c q =
@@ -53,4 +56,5 @@ invariant_of-self-clause-marked c =
     let kept : Kept = record { page = c.args.p; copy = c.len.result / 4096; level = 0 } in
     let P : List ℕ → Type 0 = λ l. AreMarked (set self.places.items c.args.at (Some kept)) l in
     subst P (sym c.in-Ok.ensures.items)
-    (marked_first self.places.items self.bytes.items c.args.bytes.now c.args.at kept (omega (arith, c.requires.place, place_below c.args.p, self.many)) self.kept self.whole refl self.marked)
+    (marked_first self.places.items self.bytes.items c.args.bytes.now c.args.at kept
+    (omega (arith, c.requires.place, place_below c.args.p, self.many)) self.kept self.whole refl self.marked)

@@ -10,13 +10,15 @@ use Rattle.page_space.proofs.Marking.{marked_none}
 use Rattle.page_space.proofs.Placing.{filled_none, kept_none}
 use Rattle.page_space.proofs.page_cache.PageCache.new.Goals as goal
 
-none_held : (places : List (Option Kept)) (bytes : List ℕ) (n p : ℕ) → places ≡ replicate n None → place p < n → copies_at places bytes p ≡ None
+none_held : (places : List (Option Kept)) (bytes : List ℕ) (n p : ℕ) → places ≡ replicate n None → place p < n
+    → copies_at places bytes p ≡ None
 none_held places bytes n p empty below =
     ap (λ l. copy_at (get_or l (place p) None) bytes p) empty
     ∙ ap (λ o. copy_at o bytes p) (get_or-replicate n (place p) None None below)
 
 pub returns : goal.returns
-returns c p = none_held c.in_ok-places.places.items c.in_ok-bytes.bytes.items 4096 p (c.in_ok-places.ensures.items_if_clones_equal (λ y same. search rules)) (place_below p)
+returns c p = none_held c.in_ok-places.places.items c.in_ok-bytes.bytes.items 4096 p
+    (c.in_ok-places.ensures.items_if_clones_equal (λ y same. search rules)) (place_below p)
 
 pub invariant_of-result-clause-whole : goal.invariant_of-result-clause-whole
 invariant_of-result-clause-whole c =

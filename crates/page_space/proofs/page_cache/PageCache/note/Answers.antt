@@ -11,7 +11,8 @@ use Rattle.page_space.proofs.page_cache.PageCache.note.Goals as goal
 pub invariant_of-self-clause-many : goal.invariant_of-self-clause-many
 invariant_of-self-clause-many c =
     let kept = c.in-Some.kept in
-    length-set c.args.self.now.places.items c.place-at.result (Some (record { page = kept.page; copy = kept.copy; level = c.args.level })) ∙ c.args.self.now.many
+    length-set c.args.self.now.places.items c.place-at.result (Some (record { page = kept.page; copy = kept.copy; level = c.args.level }))
+    ∙ c.args.self.now.many
 
 pub invariant_of-self-clause-whole : goal.invariant_of-self-clause-whole
 invariant_of-self-clause-whole c =
@@ -19,8 +20,14 @@ invariant_of-self-clause-whole c =
     let old = c.in-Some.kept in
     let kept : Kept = record { page = old.page; copy = old.copy; level = c.args.level } in
     let number : get_or self.places.items c.place-at.result None ≡ Some old =
-    get_or_default self.places.items c.place-at.result None c.index.result.now (omega (arith, c.place-at.ensures.within, self.many)) ∙ sym c.index.ensures ∙ c.in-Some.is in
-    omega (arith, self.whole, filled_same self.places.items c.place-at.result old kept (omega (arith, c.place-at.ensures.within, self.many)) number)
+    get_or_default self.places.items c.place-at.result None c.index.result.now (omega (arith, c.place-at.ensures.within, self.many))
+    ∙ sym c.index.ensures ∙ c.in-Some.is in
+    omega (
+      arith,
+      self.whole,
+      filled_same self.places.items c.place-at.result old kept
+          (omega (arith, c.place-at.ensures.within, self.many)) number,
+    )
 
 pub invariant_of-self-clause-kept : goal.invariant_of-self-clause-kept
 invariant_of-self-clause-kept c =
@@ -28,7 +35,8 @@ invariant_of-self-clause-kept c =
     let old = c.in-Some.kept in
     let kept : Kept = record { page = old.page; copy = old.copy; level = c.args.level } in
     let number : get_or self.places.items c.place-at.result None ≡ Some old =
-    get_or_default self.places.items c.place-at.result None c.index.result.now (omega (arith, c.place-at.ensures.within, self.many)) ∙ sym c.index.ensures ∙ c.in-Some.is in
+    get_or_default self.places.items c.place-at.result None c.index.result.now (omega (arith, c.place-at.ensures.within, self.many))
+    ∙ sym c.index.ensures ∙ c.in-Some.is in
     kept_over self.places.items c.place-at.result old kept (omega (arith, c.place-at.ensures.within, self.many)) number refl self.kept
 
 pub invariant_of-self-clause-marked : goal.invariant_of-self-clause-marked
@@ -38,10 +46,13 @@ invariant_of-self-clause-marked c =
     let old = c.in-Some.kept in
     let kept : Kept = record { page = old.page; copy = old.copy; level = c.args.level } in
     let number : get_or self.places.items c.place-at.result None ≡ Some old =
-    get_or_default self.places.items c.place-at.result None c.index.result.now (omega (arith, c.place-at.ensures.within, self.many)) ∙ sym c.index.ensures ∙ c.in-Some.is in
-    let here : get_or self.places.items (place p) None ≡ Some old = ap (λ k. get_or self.places.items k None) (sym c.place-at.ensures.place) ∙ number in
+    get_or_default self.places.items c.place-at.result None c.index.result.now (omega (arith, c.place-at.ensures.within, self.many))
+    ∙ sym c.index.ensures ∙ c.in-Some.is in
+    let here : get_or self.places.items (place p) None ≡ Some old = ap (λ k. get_or self.places.items k None) (sym c.place-at.ensures.place)
+    ∙ number in
     marked_more self.places.items self.bytes.items c.place-at.result kept (omega (arith, c.place-at.ensures.within, self.many))
-    (λ some. c.requires (blocks_of self.bytes.items old.copy) (sym (copy_found (get_or self.places.items (place p) None) self.bytes.items old p here c.if-kept-p.false)))
+    (λ some. c.requires (blocks_of self.bytes.items old.copy)
+    (sym (copy_found (get_or self.places.items (place p) None) self.bytes.items old p here c.if-kept-p.false)))
     self.marked
 
 pub returns : goal.returns
@@ -50,5 +61,7 @@ returns c = λ q.
     let old = c.in-Some.kept in
     let kept : Kept = record { page = old.page; copy = old.copy; level = c.args.level } in
     let number : get_or self.places.items c.place-at.result None ≡ Some old =
-    get_or_default self.places.items c.place-at.result None c.index.result.now (omega (arith, c.place-at.ensures.within, self.many)) ∙ sym c.index.ensures ∙ c.in-Some.is in
-    copies_stay self.places.items self.bytes.items c.place-at.result old kept (omega (arith, c.place-at.ensures.within, self.many)) number refl refl q
+    get_or_default self.places.items c.place-at.result None c.index.result.now (omega (arith, c.place-at.ensures.within, self.many))
+    ∙ sym c.index.ensures ∙ c.in-Some.is in
+    copies_stay self.places.items self.bytes.items c.place-at.result old kept
+    (omega (arith, c.place-at.ensures.within, self.many)) number refl refl q

@@ -14,4 +14,5 @@ invariant_of-self-2-clause-copied g c = λ fit told.
     let after = (g.P.Pages.view c.commit.new.self).image in
     let copies = copies_in old.cache in
     copies_same after (renewed batch copies) (copies_in c.renew.new.self) c.renew.ensures
-    (copies_on (put_all batch before) after (renewed batch copies) (c.in_ok-commit.ensures.done was) (copies_renewed before batch copies (old.copied c.requires.sound was)))
+    (copies_on (put_all batch before) after (renewed batch copies) (c.in_ok-commit.ensures.done was)
+    (copies_renewed before batch copies (old.copied c.requires.sound was)))

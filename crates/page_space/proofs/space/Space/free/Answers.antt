@@ -5,7 +5,9 @@ use Rattle.page_space.specs.Transactions.{held_page, left_by}
 use Rattle.page_space.proofs.Changing.{free_stands}
 use Rattle.page_space.proofs.Spacing.{gives}
 use Rattle.page_space.proofs.space.Space.free.Goals as goal
-use Rattle.page_space.proofs.space.Space.free.Goals.{then-p-lt-FIRST-via-then-p-lt-FIRST, then-p-lt-FIRST-via-else-p-lt-FIRST+then-p-superblock, then-p-lt-FIRST-via-else-p-lt-FIRST+else-p-superblock+then-superblock}
+use Rattle.page_space.proofs.space.Space.free.Goals.{then-p-lt-FIRST-via-then-p-lt-FIRST}
+use Rattle.page_space.proofs.space.Space.free.Goals.{then-p-lt-FIRST-via-else-p-lt-FIRST+then-p-superblock}
+use Rattle.page_space.proofs.space.Space.free.Goals.{then-p-lt-FIRST-via-else-p-lt-FIRST+else-p-superblock+then-superblock}
 
 pub returns-then-p-lt-FIRST-clause-stands : goal.returns-then-p-lt-FIRST-clause-stands
 returns-then-p-lt-FIRST-clause-stands g c = λ count image taken rest freed stands parts.

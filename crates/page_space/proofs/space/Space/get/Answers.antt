@@ -13,7 +13,8 @@ not_held None is held = cc (held)
 not_held (Some bytes) is held = cc (is)
 
 here : (p : ℕ) (bytes : List ℕ) (copies : Copies) → with_copy p bytes copies p ≡ Some bytes
-here p bytes copies = ap (λ b. cond b (copy_of p bytes p) (copies p)) (eq-eqb (place p) (place p) refl) ∙ ap (λ b. cond b (Some bytes) None) (eq-eqb p p refl)
+here p bytes copies = ap (λ b. cond b (copy_of p bytes p) (copies p)) (eq-eqb (place p) (place p) refl)
+    ∙ ap (λ b. cond b (Some bytes) None) (eq-eqb p p refl)
 
 elsewhere : (p q : ℕ) (bytes : List ℕ) (copies : Copies) → place q ≢ place p → with_copy p bytes copies q ≡ copies q
 elsewhere p q bytes copies off = ap (λ b. cond b (copy_of p bytes q) (copies q)) (ne_eqb (place q) (place p) off)

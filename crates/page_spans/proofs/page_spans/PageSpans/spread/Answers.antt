@@ -18,7 +18,8 @@ first c = search (rules, c.split_all.ensures.top)
 pub returns-clause-heap : goal.returns-clause-heap
 returns-clause-heap c =
     let page = c.args.page.now in
-    spread_heap c.split_all.result (span_at c.split_all.new.spans) (coef_at page.bytes.now) c.args.top (page_tied page.bytes.now page.keeps) (first c) c.split_all.ensures.splits
+    spread_heap c.split_all.result (span_at c.split_all.new.spans) (coef_at page.bytes.now) c.args.top (page_tied page.bytes.now page.keeps)
+    (first c) c.split_all.ensures.splits
 
 pub returns-clause-joined : goal.returns-clause-joined
 returns-clause-joined c = λ want heap proper top.
@@ -32,21 +33,26 @@ returns-clause-same c = λ want heap proper top.
 
 pub returns-clause-split : goal.returns-clause-split
 returns-clause-split c = λ list level index slots low nodes top.
-    returns-clause-joined c (place_span list level index) (list_heap list level index c.args.page.now.bytes.now low nodes) (list_proper list level index slots)
+    returns-clause-joined c (place_span list level index) (list_heap list level index c.args.page.now.bytes.now low nodes)
+    (list_proper list level index slots)
     (list_top list level index ∙ sym top)
 
 pub returns-clause-leaves : goal.returns-clause-leaves
 returns-clause-leaves c = λ list level index slots low nodes top.
-    leaves_spread list level index (span_at c.split_all.new.spans) c.args.page.now.bytes.now (Some c.args.top) slots low nodes top (returns-clause-same c)
+    leaves_spread list level index (span_at c.split_all.new.spans) c.args.page.now.bytes.now (Some c.args.top) slots low nodes top
+    (returns-clause-same c)
 
 pub returns-clause-children : goal.returns-clause-children
-returns-clause-children c = spread_children c.split_all.result (span_at c.split_all.new.spans) c.args.page.now.bytes.now (returns-clause-heap c)
+returns-clause-children c = spread_children c.split_all.result (span_at c.split_all.new.spans) c.args.page.now.bytes.now
+    (returns-clause-heap c)
 
 pub returns-clause-seen : goal.returns-clause-seen
 returns-clause-seen c = λ root told highest level index seen.
-    leaves_known c.split_all.result root told highest level index c.args.page.now.bytes.now c.args.top (span_at c.split_all.new.spans) seen (first c) c.split_all.ensures.splits
+    leaves_known c.split_all.result root told highest level index c.args.page.now.bytes.now c.args.top (span_at c.split_all.new.spans) seen
+    (first c) c.split_all.ensures.splits
 
 pub returns-clause-bad_key : goal.returns-clause-bad_key
 returns-clause-bad_key c = λ root told highest level index seen.
-    key_is_bad c.split_all.result (λ bad. bad.node) root told highest level index c.args.page.now.bytes.now c.args.top (span_at c.split_all.new.spans) seen (first c)
+    key_is_bad c.split_all.result (λ bad. bad.node) root told highest level index c.args.page.now.bytes.now c.args.top
+    (span_at c.split_all.new.spans) seen (first c)
     c.split_all.ensures.bad

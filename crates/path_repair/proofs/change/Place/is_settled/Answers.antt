@@ -12,5 +12,6 @@ returns-then-page-eq0-clause-unsettled c is =
     let new = c.has_new.ensures.some (true_of c.has_new.result is) in
     record {
       something = λ none. new;
-      passed = ap (λ b. b || is_new_root c.args.self.height c.args.self.level c.args.self.index) (new_touched c.args.slots.first c.args.slots.end c.args.values.now c.args.self.level c.args.self.index new);
+      passed = ap (λ b. b || is_new_root c.args.self.height c.args.self.level c.args.self.index)
+          (new_touched c.args.slots.first c.args.slots.end c.args.values.now c.args.self.level c.args.self.index new);
     }

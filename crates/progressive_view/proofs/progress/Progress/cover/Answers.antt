@@ -11,9 +11,12 @@ pub returns : goal.returns
 returns c =
     if-ok c.draw_cover.result
     (λ (drawn : Canvas). IsCoverOf (scene_of c.scope_of-scope.result
-    (told_in c.scope_of-scope.result c.as_slice.result.now (holding_of c.self.inside.view.now.session c.self.inside.client.now) c.self.inside.view.now.series c.self.inside.taken)) drawn)
+    (told_in c.scope_of-scope.result c.as_slice.result.now
+    (holding_of c.self.inside.view.now.session c.self.inside.client.now) c.self.inside.view.now.series c.self.inside.taken)) drawn)
     (λ (drawn : Canvas). DrawsCover c.args.self.now drawn)
     (λ drawn cover. subst (λ (s : Taking). DrawsCover s drawn) c.self.view_is
-    (drawn-cover c.self.inside.view.now c.self.inside.client.now c.self.inside.taken c.scope_of-scope.result c.as_slice.result.now drawn c.self.invariant
-    c.scope_of-scope.ensures.axis c.scope_of-scope.ensures.grid c.scope_of-scope.ensures.lo c.scope_of-scope.ensures.hi c.scope_of-scope.ensures.root c.as_slice.ensures cover))
+    (drawn-cover c.self.inside.view.now c.self.inside.client.now c.self.inside.taken c.scope_of-scope.result c.as_slice.result.now drawn
+    c.self.invariant
+    c.scope_of-scope.ensures.axis c.scope_of-scope.ensures.grid c.scope_of-scope.ensures.lo c.scope_of-scope.ensures.hi
+    c.scope_of-scope.ensures.root c.as_slice.ensures cover))
     c.draw_cover.ensures

@@ -13,7 +13,9 @@ returns-then-is_across c =
     let p : ℕ = place_in c.args.self.now.sent.now c.args.key in
     let held : Option Coef = held_by (holding_of c.args.self.now.session c.args.self.now.client.now) c.args.self.now.series c.args.key in
     let unsent : coef_if (slice_get c.args.self.now.sent.now p) c.args.key ≡ None =
-    ap (λ (n : ℕ). coef_if (slice_get c.args.self.now.sent.now n) c.args.key) (sym c.place_of-place.ensures.is) ∙ sym c.coef_at.ensures ∙ c.in-None.is in
+    ap (λ (n : ℕ). coef_if (slice_get c.args.self.now.sent.now n) c.args.key) (sym c.place_of-place.ensures.is) ∙ sym c.coef_at.ensures
+    ∙ c.in-None.is in
     let low : p ≤ c.args.self.now.taken = omega (arith, c.place_of-place.ensures.is, c.if-place-self-2.true) in
     let so : is_across c.args.self.now.scope c.args.key ≡ true = sym c.is_across.ensures.test ∙ c.if-is_across.true in
-    c.held.ensures ∙ sym (chosen-held (coef_if (slice_get c.args.self.now.sent.now p) c.args.key) held (is_across c.args.self.now.scope c.args.key) c.args.self.now.taken p unsent low so)
+    c.held.ensures ∙ sym (chosen-held (coef_if (slice_get c.args.self.now.sent.now p) c.args.key) held
+    (is_across c.args.self.now.scope c.args.key) c.args.self.now.taken p unsent low so)

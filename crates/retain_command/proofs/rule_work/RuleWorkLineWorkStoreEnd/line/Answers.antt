@@ -31,4 +31,5 @@ returns-clause-leaves g c = λ held stands known. (c.answer_line.ensures.does he
 pub returns-clause-cause : goal.returns-clause-cause
 returns-clause-cause g c =
     let side = side_of g.P.Streams in
-    cause_short (λ end. IsCause end (side c.args.from.now) (side c.answer_line.new.store)) c.answer_line.result c.answer_line.ensures.cause c.answer_line.ensures.long
+    cause_short (λ end. IsCause end (side c.args.from.now) (side c.answer_line.new.store)) c.answer_line.result c.answer_line.ensures.cause
+    c.answer_line.ensures.long

@@ -13,5 +13,6 @@ invariant_of-self c =
     let shorter : c.args.before ≤ length c.index_mut-series.result.now.slots =
     MatchOption-at_some _ _ _ (ap (λ book. slice_get book c.args.id) (sym c.self.view_is) ∙ there) c.requires.shorter in
     IsBook-set c.self.inside.series.items c.args.id c.index_mut-series.result.now _ c.self.invariant there
-    (IsSeries-taken_back c.index_mut-series.result.now c.args.place c.args.before c.args.displaced.now _ was c.requires.in_range shorter c.requires.fits c.take_back.ensures.after)
+    (IsSeries-taken_back c.index_mut-series.result.now c.args.place c.args.before c.args.displaced.now _ was c.requires.in_range shorter
+    c.requires.fits c.take_back.ensures.after)
     refl

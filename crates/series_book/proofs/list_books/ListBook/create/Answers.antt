@@ -21,17 +21,21 @@ pub add-requires-clause-in_range : goal.add-requires-clause-in_range
 add-requires-clause-in_range c =
     let P : List ℕ → Type 0 = λ name. IsTrue (is_name name) in
     let start = to_z-of_z w64 c.args.start c.ranges.start in
-    IsSeries-new _ _ _ _ _ c.empty.ensures (subst P (sym c.in_ok-name.ensures.equal) c.in_ok-name.ensures.named) (omega (arith, c.requires.start_in_range, ap unsigned_abs start)) c.requires.step_above_zero c.requires.step_in_range c.requires.scale_in_range
+    IsSeries-new _ _ _ _ _ c.empty.ensures (subst P (sym c.in_ok-name.ensures.equal) c.in_ok-name.ensures.named)
+    (omega (arith, c.requires.start_in_range, ap unsigned_abs start)) c.requires.step_above_zero c.requires.step_in_range
+    c.requires.scale_in_range
 
 pub returns-then-is_some-clause-refused : goal.returns-then-is_some-clause-refused
 returns-then-is_some-clause-refused c =
     let seen : c.self.inside.book ≡ c.args.self.now.book = ap (λ (limited : LimitedBook). limited.book) c.self.view_is in
-    created-exists _ _ (ap is_some (ap (id_of c.args.name.now) (sym seen) ∙ sym c.find.ensures.id) ∙ sym c.is_some.ensures ∙ c.if-is_some.true)
+    created-exists _ _ (ap is_some (ap (id_of c.args.name.now) (sym seen) ∙ sym c.find.ensures.id) ∙ sym c.is_some.ensures
+    ∙ c.if-is_some.true)
 
 pub returns-then-len-ge-MOST_SERIES-clause-refused : goal.returns-then-len-ge-MOST_SERIES-clause-refused
 returns-then-len-ge-MOST_SERIES-clause-refused c =
     let seen : c.self.inside.book ≡ c.args.self.now.book = ap (λ (limited : LimitedBook). limited.book) c.self.view_is in
-    created-full _ _ (ap is_some (ap (id_of c.args.name.now) (sym seen) ∙ sym c.find.ensures.id) ∙ sym c.is_some.ensures ∙ c.if-is_some.false)
+    created-full _ _ (ap is_some (ap (id_of c.args.name.now) (sym seen) ∙ sym c.find.ensures.id) ∙ sym c.is_some.ensures
+    ∙ c.if-is_some.false)
     (omega (arith, c.len.ensures, ap length seen, c.if-len-ge-MOST_SERIES.true))
 
 pub invariant_of-self-2 : goal.invariant_of-self-2
@@ -43,6 +47,7 @@ invariant_of-self-2 c =
 pub returns-clause-ok : goal.returns-clause-ok
 returns-clause-ok c =
     let seen : c.self.inside.book ≡ c.args.self.now.book = ap (λ (limited : LimitedBook). limited.book) c.self.view_is in
-    created_as _ _ _ _ _ c.args.start _ _ _ _ seen c.in_ok-add.ensures.ok c.empty.ensures c.in_ok-name.ensures.equal (to_z-of_z w64 c.args.start c.ranges.start)
+    created_as _ _ _ _ _ c.args.start _ _ _ _ seen c.in_ok-add.ensures.ok c.empty.ensures c.in_ok-name.ensures.equal
+    (to_z-of_z w64 c.args.start c.ranges.start)
     (ap is_some (ap (id_of c.args.name.now) (sym seen) ∙ sym c.find.ensures.id) ∙ sym c.is_some.ensures ∙ c.if-is_some.false)
     (omega (arith, c.len.ensures, ap length seen, c.if-len-ge-MOST_SERIES.false))

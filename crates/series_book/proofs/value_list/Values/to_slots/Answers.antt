@@ -6,7 +6,8 @@ use Rattle.series_book.proofs.SlotLemmas.{none_too_large}
 use Rattle.series_book.proofs.value_list.Values.to_slots.Goals as goal
 
 -- the items so far, with the next one at their end
-next_pushed : {X : Type 0} (old new items : List X) (i : ℕ) (x d : X) → old ≡ take i items → new ≡ old ++ x ∷ [] → x ≡ get_or items i d → i < length items
+next_pushed : {X : Type 0} (old new items : List X) (i : ℕ) (x d : X) → old ≡ take i items → new ≡ old ++ x ∷ [] → x ≡ get_or items i d
+    → i < length items
     → new ≡ take (i + 1) items
 next_pushed old new items i x d old_is new_is x_is within = let more = take_more items i d within in cc
 

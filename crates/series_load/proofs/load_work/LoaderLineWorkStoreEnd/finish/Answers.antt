@@ -17,9 +17,11 @@ returns-clause-does g c = λ loading stands.
     let e = c.end.ensures in
     any_end_done (shown.IsTold old) (shown.IsTold new) loader loader' (shown.view old) (shown.view new) e.carries.is_told loading NoBad
     (sent (shown.pages old)) (sent (shown.pages new)) c.end.result (record { name_is = e.name; scale_is = e.scale; step_is = e.step })
-    e.first e.points (sym (w.beside_sent (shown.pages new)) ∙ ap (λ (b : Beside). b.sent) e.carries.beside ∙ w.beside_sent (shown.pages old))
+    e.first e.points (sym (w.beside_sent (shown.pages new)) ∙ ap (λ (b : Beside). b.sent) e.carries.beside
+    ∙ w.beside_sent (shown.pages old))
     (λ held s. e.does held.total held.book held.waiting held.open_run s.is_told s.stands s.keeps)
-    (λ held s. keeps_named loader.name loader'.name c.end.result None loader'.kept loader'.run e.name (e.keeps held.waiting held.open_run s.keeps)) stands
+    (λ held s. keeps_named loader.name loader'.name c.end.result None loader'.kept loader'.run e.name
+    (e.keeps held.waiting held.open_run s.keeps)) stands
 
 pub returns-clause-stops : goal.returns-clause-stops
 returns-clause-stops g c = λ loading stands.

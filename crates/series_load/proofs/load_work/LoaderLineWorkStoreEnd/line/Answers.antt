@@ -13,7 +13,8 @@ returns-clause-does g c = λ loading stands.
     let new = c.take_line.new.store in
     let loader' = c.take_line.new.self in
     let e = c.take_line.ensures in
-    any_line_done (shown.IsTold old) (shown.IsTold new) loader loader' (shown.view old) (shown.view new) e.carries.is_told loading c.args.at c.args.line.now
+    any_line_done (shown.IsTold old) (shown.IsTold new) loader loader' (shown.view old)
+    (shown.view new) e.carries.is_told loading c.args.at c.args.line.now
     (sent (shown.pages old)) (sent (shown.pages new)) c.take_line.result (record { name_is = e.name; scale_is = e.scale; step_is = e.step })
     (sym (w.beside_sent (shown.pages new)) ∙ ap (λ (b : Beside). b.sent) e.carries.beside ∙ w.beside_sent (shown.pages old))
     (λ held s. e.does held.total held.book held.waiting held.open_run s.is_told s.stands s.keeps) e.reads stands
@@ -25,7 +26,8 @@ returns-clause-stops g c = λ loading stands.
     let new = c.take_line.new.store in
     let loader' = c.take_line.new.self in
     let e = c.take_line.ensures in
-    any_line_stops (shown.IsTold old) (shown.IsTold new) loader loader' (shown.view old) (shown.view new) e.carries.is_told loading c.args.at c.args.line.now
+    any_line_stops (shown.IsTold old) (shown.IsTold new) loader loader' (shown.view old)
+    (shown.view new) e.carries.is_told loading c.args.at c.args.line.now
     c.take_line.result (λ held s. e.does held.total held.book held.waiting held.open_run s.is_told s.stands s.keeps) e.blames stands
 
 pub returns-clause-leaves : goal.returns-clause-leaves
@@ -35,5 +37,6 @@ returns-clause-leaves g c = λ loading stands lasts.
     let new = c.take_line.new.store in
     let loader' = c.take_line.new.self in
     let e = c.take_line.ensures in
-    any_line_leaves (shown.IsTold old) (shown.IsTold new) loader loader' (shown.view old) (shown.view new) e.carries.is_told loading c.args.at c.args.line.now
+    any_line_leaves (shown.IsTold old) (shown.IsTold new) loader loader' (shown.view old)
+    (shown.view new) e.carries.is_told loading c.args.at c.args.line.now
     c.take_line.result (λ held s. e.does held.total held.book held.waiting held.open_run s.is_told s.stands s.keeps) stands lasts

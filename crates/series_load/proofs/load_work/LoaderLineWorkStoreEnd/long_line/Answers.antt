@@ -13,7 +13,8 @@ returns-clause-stops g c = λ loading stands.
     let new = c.stop.new.store in
     let loader' = c.stop.new.self in
     let e = c.stop.ensures in
-    any_runs_stop (shown.IsTold old) (shown.IsTold new) loader loader' (shown.view old) (shown.view new) e.carries.is_told loading (Line c.args.at None)
+    any_runs_stop (shown.IsTold old) (shown.IsTold new) loader loader' (shown.view old) (shown.view new) e.carries.is_told loading
+    (Line c.args.at None)
     (λ held. held.waiting ++ closed held.open_run) (Err c.stop.result) (λ held. refl)
     (λ held s. e.does held.total held.book held.waiting held.open_run s.is_told s.stands s.keeps) e.blames stands
 
@@ -24,6 +25,8 @@ returns-clause-leaves g c = λ loading stands lasts.
     let new = c.stop.new.store in
     let loader' = c.stop.new.self in
     let e = c.stop.ensures in
-    any_runs_leave (shown.IsTold old) (shown.IsTold new) loader loader' (shown.view old) (shown.view new) e.carries.is_told loading (Line c.args.at None)
-    (λ held. BadBy (seen held loader) (Line c.args.at None) (shown.image new)) (λ held. held.waiting ++ closed held.open_run) (Err c.stop.result) (λ held. refl)
+    any_runs_leave (shown.IsTold old) (shown.IsTold new) loader loader' (shown.view old) (shown.view new) e.carries.is_told loading
+    (Line c.args.at None)
+    (λ held. BadBy (seen held loader) (Line c.args.at None) (shown.image new)) (λ held. held.waiting ++ closed held.open_run)
+    (Err c.stop.result) (λ held. refl)
     (λ held s. e.does held.total held.book held.waiting held.open_run s.is_told s.stands s.keeps) stands lasts

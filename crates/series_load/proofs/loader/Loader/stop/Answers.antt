@@ -7,12 +7,14 @@ use Rattle.series_load.proofs.loader.Loader.stop.Goals as goal
 
 pub returns-in-Ok-clause-does : goal.returns-in-Ok-clause-does
 returns-in-Ok-clause-does g c = λ total book waiting old told stands keeps.
-    stopped c.args.at c.from.result total c.args.self.now.name book (waiting ++ closed old) c.in-Ok.field-0 (shown.view c.args.store.now) (shown.view c.end.new.store) c.from.ensures
+    stopped c.args.at c.from.result total c.args.self.now.name book (waiting ++ closed old) c.in-Ok.field-0 (shown.view c.args.store.now)
+    (shown.view c.end.new.store) c.from.ensures
     (c.in-Ok.ensures.does total book waiting old told stands keeps)
 
 pub returns-in-Err-clause-does : goal.returns-in-Err-clause-does
 returns-in-Err-clause-does g c = λ total book waiting old told stands keeps.
-    not_stopped (IsAtLine c.args.at total c.args.self.now.name book (waiting ++ closed old) (shown.image c.end.new.store)) total c.args.self.now.name book (waiting ++ closed old) c.in-Err.end (shown.view c.args.store.now) (shown.view c.end.new.store)
+    not_stopped (IsAtLine c.args.at total c.args.self.now.name book (waiting ++ closed old) (shown.image c.end.new.store)) total
+    c.args.self.now.name book (waiting ++ closed old) c.in-Err.end (shown.view c.args.store.now) (shown.view c.end.new.store)
     (c.in-Err.ensures.does total book waiting old told stands keeps)
 
 pub returns-in-Ok-clause-faults : goal.returns-in-Ok-clause-faults

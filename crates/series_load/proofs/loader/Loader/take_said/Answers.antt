@@ -20,7 +20,8 @@ returns-in-Point-clause-does c = λ waiting old text keeps some says.
     let at = c.args.self.now in
     let new = c.take_reading.new.self in
     let P : Said → Type 0 = λ s. SaysSo at.scale at.first text s in
-    point_took at.scale at.step c.args.at text at.first new.first at.points new.points c.in-Point.reading.time c.in-Point.reading.value at.name waiting old c.take_reading.result new.kept new.run some (subst P c.in-Point.is says)
+    point_took at.scale at.step c.args.at text at.first new.first at.points new.points c.in-Point.reading.time c.in-Point.reading.value
+    at.name waiting old c.take_reading.result new.kept new.run some (subst P c.in-Point.is says)
     c.take_reading.ensures.first c.take_reading.ensures.points (c.take_reading.ensures.does waiting old keeps)
 
 pub returns-in-Gap-clause-does : goal.returns-in-Gap-clause-does
@@ -28,8 +29,10 @@ returns-in-Gap-clause-does c = λ waiting old text keeps some says.
     let at = c.args.self.now in
     let new = c.close.new.self in
     let P : Said → Type 0 = λ s. SaysSo at.scale at.first text s in
-    gap_took at.scale at.step c.args.at text at.first new.first at.points new.points at.name waiting old c.close.result new.kept new.run some (subst P c.in-Gap.is says)
-    c.close.ensures.first c.close.ensures.points (ok_keeps_as c.close.result at.name new.name (waiting ++ closed old) None new.kept new.run c.close.ensures.name (c.close.ensures.keeps waiting old keeps))
+    gap_took at.scale at.step c.args.at text at.first new.first at.points new.points at.name waiting old c.close.result new.kept new.run
+    some (subst P c.in-Gap.is says)
+    c.close.ensures.first c.close.ensures.points (ok_keeps_as c.close.result at.name new.name
+    (waiting ++ closed old) None new.kept new.run c.close.ensures.name (c.close.ensures.keeps waiting old keeps))
 
 pub returns-in-Header-clause-counts : goal.returns-in-Header-clause-counts
 returns-in-Header-clause-counts c =

@@ -10,9 +10,11 @@ returns-clause-goes g c =
     let old = c.args.self.now in
     let was = c.requires.1 in
     let catalog = c.select.ensures.catalog in
-    let many : length (series_in c.select.new.self.catalog) ≡ length (series_in old.store.now.catalog) = ap (λ (c : Catalog). length (series_in c)) catalog in
+    let many : length (series_in c.select.new.self.catalog) ≡ length
+    (series_in old.store.now.catalog) = ap (λ (c : Catalog). length (series_in c)) catalog in
     turns_go old _ refl refl refl c.select.ensures.space catalog was (record {
       first = omega (arith, many, was.first);
       second = omega (arith, many, was.second);
-      selected = selects_side old.store.now c.select.new.self c.id_of-id.result (side_of c.args.second old.x old.y) c.id_of-id.ensures catalog c.select.ensures.slots;
+      selected = selects_side old.store.now c.select.new.self c.id_of-id.result
+          (side_of c.args.second old.x old.y) c.id_of-id.ensures catalog c.select.ensures.slots;
     })

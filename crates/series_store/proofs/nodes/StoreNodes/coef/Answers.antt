@@ -7,7 +7,8 @@ use Rattle.series_store.proofs.nodes.StoreNodes.coef.Goals as goal
 pub invariant_of-self : goal.invariant_of-self
 invariant_of-self g c =
     let same : c.coef_at.new.space.superblock ≡ c.args.self.now.space.superblock = c.coef_at.ensures.kept.superblock in
-    let stay : Stay (g.P.Pages.told c.args.self.now.space.pages) (g.P.Pages.told c.coef_at.new.space.pages) (g.P.Pages.view c.args.self.now.space.pages) (g.P.Pages.view c.coef_at.new.space.pages) = record {
+    let stay : Stay (g.P.Pages.told c.args.self.now.space.pages) (g.P.Pages.told c.coef_at.new.space.pages)
+    (g.P.Pages.view c.args.self.now.space.pages) (g.P.Pages.view c.coef_at.new.space.pages) = record {
       was_fit = λ fit. c.requires.fit.sound;
       was_told = c.coef_at.ensures.kept.was_told;
       image = c.coef_at.ensures.kept.image;
@@ -19,8 +20,13 @@ invariant_of-self g c =
       small = subst P (sym same) c.args.self.now.small;
       count = c.args.self.now.count ∙ ap (λ (s : Superblock). s.series) (sym same);
       fits = subst F (sym same) c.args.self.now.fits;
-      told = told_on (g.P.Pages.told c.args.self.now.space.pages) (g.P.Pages.told c.coef_at.new.space.pages) (g.P.Pages.view c.args.self.now.space.pages) (g.P.Pages.view c.coef_at.new.space.pages) c.args.self.now.catalog.series.items stay c.args.self.now.told;
-      whole = whole_on (g.P.Pages.told c.args.self.now.space.pages) (g.P.Pages.told c.coef_at.new.space.pages) (g.P.Pages.view c.args.self.now.space.pages) (g.P.Pages.view c.coef_at.new.space.pages) c.args.self.now.space.superblock c.coef_at.new.space.superblock stay same c.args.self.now.whole;
+      told = told_on (g.P.Pages.told c.args.self.now.space.pages) (g.P.Pages.told c.coef_at.new.space.pages)
+          (g.P.Pages.view c.args.self.now.space.pages)
+          (g.P.Pages.view c.coef_at.new.space.pages) c.args.self.now.catalog.series.items stay c.args.self.now.told;
+      whole = whole_on (g.P.Pages.told c.args.self.now.space.pages) (g.P.Pages.told c.coef_at.new.space.pages)
+          (g.P.Pages.view c.args.self.now.space.pages)
+          (g.P.Pages.view c.coef_at.new.space.pages) c.args.self.now.space.superblock c.coef_at.new.space.superblock stay same
+          c.args.self.now.whole;
       few = c.args.self.now.few;
       root = subst R (sym same) c.args.self.now.root;
       proper = c.args.self.now.proper;

@@ -17,4 +17,12 @@ invariant_of-self g c = record {
 
 -- the transaction leaves each page, so the pages
 pub returns-clause-left : goal.returns-clause-left
-returns-clause-left g c = rw (shown.IsTold, shown.image, shown.view, shown.under, shown.numbers, shown.pages, c.begin.ensures.same) (λ told. fun_ext (c.in_ok-begin.ensures.left c.requires.sound told))
+returns-clause-left g c = rw (
+  shown.IsTold,
+  shown.image,
+  shown.view,
+  shown.under,
+  shown.numbers,
+  shown.pages,
+  c.begin.ensures.same,
+) (λ told. fun_ext (c.in_ok-begin.ensures.left c.requires.sound told))

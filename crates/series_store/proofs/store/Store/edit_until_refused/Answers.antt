@@ -3,25 +3,82 @@ use Rattle.series_store.specs.Shown as shown
 use Rattle.series_store.proofs.store.Store.edit_until_refused.Goals as goal
 
 pub returns-clause-done : goal.returns-clause-done
-returns-clause-done g c = rw (shown.ForBook, shown.IsTold, shown.image, shown.view, shown.pages, ← c.select_none.ensures.space) (λ total book told stands. (c.edit_some.ensures.answered total book told stands).done)
+returns-clause-done g c = rw (
+  shown.ForBook,
+  shown.IsTold,
+  shown.image,
+  shown.view,
+  shown.pages,
+  ← c.select_none.ensures.space,
+) (λ total book told stands. (c.edit_some.ensures.answered total book told stands).done)
 
 pub returns-clause-last : goal.returns-clause-last
-returns-clause-last g c = rw (shown.ForBook, shown.IsTold, shown.image, shown.view, shown.pages, ← c.select_none.ensures.space) (λ total book told stands. (c.edit_some.ensures.answered total book told stands).last refl)
+returns-clause-last g c = rw (
+  shown.ForBook,
+  shown.IsTold,
+  shown.image,
+  shown.view,
+  shown.pages,
+  ← c.select_none.ensures.space,
+) (λ total book told stands. (c.edit_some.ensures.answered total book told stands).last refl)
 
 pub returns-clause-outside : goal.returns-clause-outside
-returns-clause-outside g c = rw (shown.ForBook, shown.IsTold, shown.image, shown.view, shown.pages, ← c.select_none.ensures.space) (λ total book told stands. (c.edit_some.ensures.answered total book told stands).outside)
+returns-clause-outside g c = rw (
+  shown.ForBook,
+  shown.IsTold,
+  shown.image,
+  shown.view,
+  shown.pages,
+  ← c.select_none.ensures.space,
+) (λ total book told stands. (c.edit_some.ensures.answered total book told stands).outside)
 
 pub returns-clause-moments : goal.returns-clause-moments
-returns-clause-moments g c = rw (shown.ForBook, shown.PassesNoneOrAll, shown.IsTold, shown.image, shown.view, shown.pages, ← c.select_none.ensures.space) (λ total book told stands. (c.edit_some.ensures.answered total book told stands).moments)
+returns-clause-moments g c = rw (
+  shown.ForBook,
+  shown.PassesNoneOrAll,
+  shown.IsTold,
+  shown.image,
+  shown.view,
+  shown.pages,
+  ← c.select_none.ensures.space,
+) (λ total book told stands. (c.edit_some.ensures.answered total book told stands).moments)
 
 pub returns-clause-whole : goal.returns-clause-whole
-returns-clause-whole g c = rw (shown.ForBook, shown.IsTold, shown.image, shown.view, shown.pages, ← c.select_none.ensures.space) (λ total book told stands. (c.edit_some.ensures.answered total book told stands).until refl)
+returns-clause-whole g c = rw (
+  shown.ForBook,
+  shown.IsTold,
+  shown.image,
+  shown.view,
+  shown.pages,
+  ← c.select_none.ensures.space,
+) (λ total book told stands. (c.edit_some.ensures.answered total book told stands).until refl)
 
 pub returns-clause-reads : goal.returns-clause-reads
-returns-clause-reads g c = rw (shown.ForBook, shown.IsTold, shown.image, shown.view, shown.pages, ← c.select_none.ensures.space) (λ total book told stands. (c.edit_some.ensures.answered total book told stands).reads)
+returns-clause-reads g c = rw (
+  shown.ForBook,
+  shown.IsTold,
+  shown.image,
+  shown.view,
+  shown.pages,
+  ← c.select_none.ensures.space,
+) (λ total book told stands. (c.edit_some.ensures.answered total book told stands).reads)
 
 pub returns-clause-few_reads : goal.returns-clause-few_reads
-returns-clause-few_reads g c = rw (shown.ForBook, shown.IsTold, shown.image, shown.view, shown.pages, ← c.select_none.ensures.space) (λ total book told stands. (c.edit_some.ensures.answered total book told stands).few_reads)
+returns-clause-few_reads g c = rw (
+  shown.ForBook,
+  shown.IsTold,
+  shown.image,
+  shown.view,
+  shown.pages,
+  ← c.select_none.ensures.space,
+) (λ total book told stands. (c.edit_some.ensures.answered total book told stands).few_reads)
 
 pub returns-clause-idle : goal.returns-clause-idle
-returns-clause-idle g c = rw (shown.ForBook, shown.IsTold, shown.image, shown.view, shown.pages, ← c.select_none.ensures.space) (λ total book told stands. (c.edit_some.ensures.answered total book told stands).idle)
+returns-clause-idle g c = rw (
+  shown.ForBook,
+  shown.IsTold,
+  shown.image,
+  shown.view,
+  shown.pages,
+  ← c.select_none.ensures.space,
+) (λ total book told stands. (c.edit_some.ensures.answered total book told stands).idle)

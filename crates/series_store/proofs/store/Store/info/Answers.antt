@@ -36,8 +36,13 @@ returns-clause-none g c = λ none.
 
 pub returns-clause-info : goal.returns-clause-info
 returns-clause-info g c = λ total book series fit told stands there.
-    let own = own_store (g.P.Pages.view c.args.self.now.space.pages).size total (g.P.Pages.view c.args.self.now.space.pages).image book c.args.self.now.space.superblock c.args.self.now.space.rules c.args.self.now.small (c.args.self.now.space.spelled fit told) stands in
-    info_is (g.P.Pages.view c.args.self.now.space.pages).image c.args.self.now.space.superblock book c.args.self.now.catalog.series.items c.args.id c.series-series.result.now series _ own.0 (c.args.self.now.told fit told) c.series-series.ensures there refl (start_same c.series-series.result.now.start (c.args.self.now.fits c.args.id c.series-series.result.now c.series-series.ensures).start) refl refl refl refl
+    let own = own_store (g.P.Pages.view c.args.self.now.space.pages).size total
+    (g.P.Pages.view c.args.self.now.space.pages).image book c.args.self.now.space.superblock c.args.self.now.space.rules
+    c.args.self.now.small (c.args.self.now.space.spelled fit told) stands in
+    info_is (g.P.Pages.view c.args.self.now.space.pages).image c.args.self.now.space.superblock book c.args.self.now.catalog.series.items
+    c.args.id c.series-series.result.now series _ own.0 (c.args.self.now.told fit told) c.series-series.ensures there refl
+    (start_same c.series-series.result.now.start
+    (c.args.self.now.fits c.args.id c.series-series.result.now c.series-series.ensures).start) refl refl refl refl
 
 pub returns-clause-few : goal.returns-clause-few
 returns-clause-few g c = omega (arith, c.requires, c.args.self.now.catalog.few)

@@ -13,5 +13,6 @@ invariant_of-self g c = record {
   few = omega arith;
   root = omega (arith, c.args.self.now.space.rules.total_low);
   proper = tt;
-  trail_is = any_trail (g.P.Pages.told c.args.self.now.space.pages) (space_view c.args.self.now.space.superblock (g.P.Pages.view c.args.self.now.space.pages)) _ c.forget.new.self c.forget.ensures.fits;
+  trail_is = any_trail (g.P.Pages.told c.args.self.now.space.pages)
+      (space_view c.args.self.now.space.superblock (g.P.Pages.view c.args.self.now.space.pages)) _ c.forget.new.self c.forget.ensures.fits;
 }

@@ -7,5 +7,8 @@ pub returns-then-depth-self : goal.returns-then-depth-self
 returns-then-depth-self c =
     let trail = c.args.self.now in
     let page = c.index.result.now in
-    let number = number_is trail.pages.items c.args.depth page (omega (arith, trail.room, trail.few, c.if-depth-self.true)) c.index.ensures in
-    (λ same. record { long = c.if-depth-self.true; is = number ∙ eqb-true page.number c.args.number same }, λ hit. eq-eqb page.number c.args.number (sym number ∙ hit.is))
+    let number = number_is trail.pages.items c.args.depth page
+    (omega (arith, trail.room, trail.few, c.if-depth-self.true)) c.index.ensures in (
+      λ same. record { long = c.if-depth-self.true; is = number ∙ eqb-true page.number c.args.number same },
+      λ hit. eq-eqb page.number c.args.number (sym number ∙ hit.is),
+    )

@@ -16,8 +16,12 @@ take-requires-clause-room c =
 pub loop-step-init : goal.loop-step-init
 loop-step-init c =
     let P : List Step → Type 0 = λ steps. AreOfExpression steps in
-    let Q : List BoxAnswer → Type 0 = λ answers. AreAnswers [] c.args.times c.args.values answers in
-    ([], subst Q (sym c.new-answers.ensures) tt, are_of c.deref-step-items.result.now (subst P (sym c.deref-step-items.ensures.value) c.self.invariant))
+    let Q : List BoxAnswer → Type 0 = λ answers. AreAnswers [] c.args.times c.args.values answers in (
+      [],
+      subst Q (sym c.new-answers.ensures) tt,
+      are_of c.deref-step-items.result.now
+          (subst P (sym c.deref-step-items.ensures.value) c.self.invariant),
+    )
 
 pub loop-step-preserved : goal.loop-step-preserved
 loop-step-preserved c =
@@ -28,7 +32,8 @@ loop-step-preserved c =
 pub pop-requires : goal.pop-requires
 pop-requires c =
     let i = c.loop-step.invariant in
-    some_left i.0 _ c.args.times c.args.values c.loop-step.answers (all_told c.deref-step-items.result.now c.loop-step.step-index i.0 _ c.loop-step-test.false i.2) i.1
+    some_left i.0 _ c.args.times c.args.values c.loop-step.answers
+    (all_told c.deref-step-items.result.now c.loop-step.step-index i.0 _ c.loop-step-test.false i.2) i.1
 
 pub returns : goal.returns
 returns c =

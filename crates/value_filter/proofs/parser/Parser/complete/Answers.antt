@@ -12,7 +12,8 @@ returns c =
     elim c.if-close.branch [
       | then-close+in_ok-push-2 w ↦
           rw w.self-inside-is
-          (completed_and _ _ _ _ _ (sym (c.negations-test.ensures.kept refl) ∙ w.if-close.ensures.closed refl) w.in_ok-push-2.ensures.items c.negations.invariant)
+          (completed_and _ _ _ _ _ (sym (c.negations-test.ensures.kept refl)
+          ∙ w.if-close.ensures.closed refl) w.in_ok-push-2.ensures.items c.negations.invariant)
       | else-close w ↦
           rw w.self-inside-is
           (completed_none _ _ _ _ _ (c.negations-test.ensures.kept refl) (w.if-close.ensures.kept refl)

@@ -15,7 +15,8 @@ invariant_of-result-clause-range c = order_back c.args.lo c.args.hi (search rule
 
 pub invariant_of-result-clause-start : goal.invariant_of-result-clause-start
 invariant_of-result-clause-start c =
-    window_start c.args.axis c.args.grid 0 c.slot_range-from.result.0 refl (c.borders_part_columns.ensures.first c.args.grid) c.slot_range-from.ensures.from
+    window_start c.args.axis c.args.grid 0 c.slot_range-from.result.0 refl
+    (c.borders_part_columns.ensures.first c.args.grid) c.slot_range-from.ensures.from
 
 pub invariant_of-result-clause-stop : goal.invariant_of-result-clause-stop
 invariant_of-result-clause-stop c =
