@@ -22,7 +22,9 @@ class Batch:
         self.done.add_done_callback(lambda done: done.cancelled() or done.exception())
 
     def add(self, known, slots):
-        self.values.setdefault(known, {}).update(slots)
+        held = self.values.setdefault(known, slots)
+        if held is not slots:
+            held.update(slots)
         self.count += len(slots)
 
     async def stored(self, seconds):
