@@ -108,10 +108,14 @@ class Intake:
         for known, column in zip(series, columns):
             values, count = self._placed(known, column, outcome) if known else ({}, 0)
             if values:
-                counts = batches.setdefault(self.writer_of(known.keeper).add(known, values), {})
+                # Nobody else has a turn until the columns are through, so the batch of a store stays the same.
+                if known.keeper not in batches:
+                    batches[known.keeper] = self.writer_of(known.keeper).gathering(), {}
+                batch, counts = batches[known.keeper]
+                batch.add(known, values)
                 counts[known] = counts.get(known, 0) + count
-        await self._until_room(batches)
-        return list(batches.items())
+        await self._until_room([batch for batch, _ in batches.values()])
+        return list(batches.values())
 
     async def _until_room(self, batches):
         """Others have their turn here; and a request of more points than may wait goes on as the disk takes them."""

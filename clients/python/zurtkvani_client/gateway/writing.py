@@ -56,11 +56,10 @@ class Writer:
         """How many points aren't answered."""
         return sum(batch.count for batch in (self.batch, self.working) if batch)
 
-    def add(self, known, slots):
-        """Takes in points, and gives the batch that they are of."""
+    def gathering(self):
+        """The batch that takes in points until the one before is stored."""
         if self.batch is None:
             self.batch = Batch(self)
-        self.batch.add(known, slots)
         if self.task is None or self.task.done():
             self.progress = time.monotonic()
             self.task = asyncio.create_task(self._work())
