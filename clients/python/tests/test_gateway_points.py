@@ -86,7 +86,7 @@ class LineProtocol(unittest.TestCase):
                     numbers = column.values if column.decimals == scale else intake.plain_numbers(column.plain(), scale)
                     if numbers is None:
                         numbers = [value if len(str(value)) > 15 else intake.number_of(value, scale) for value in column.plain()]
-                    model.setdefault((column.key, column.measurement), []).extend(zip(column.times, numbers))
+                    model.setdefault((column.key, column.measurement), []).extend(zip(column.slots(0, 1), numbers))
             self.assertEqual(*found, body)
             self.assertEqual(*[(outcome.errors, outcome.bad, outcome.left_out) for outcome in outcomes], body)
         self.assertGreater(plain, 1000)
@@ -100,7 +100,7 @@ class LineProtocol(unittest.TestCase):
         self.assertEqual(sum(len(column.times) for part in parts for column in part), 40_000)
         long = b"w v=1 1\n" + b"x" * 2**19 + b" v=2 2\nw v=3 3"
         found = [column for part in line_protocol.Reader("db", "_").parts(long, "", "s", 5, outcome) for column in part]
-        self.assertEqual([list(column.times) for column in found], [[10**9], [2 * 10**9], [3 * 10**9]])
+        self.assertEqual([column.slots(0, 1) for column in found], [[10**9], [2 * 10**9], [3 * 10**9]])
 
     def test_random_points_are_those_that_influxdbs_client_wrote(self):
         try:

@@ -23,11 +23,23 @@ WITH_DECIMALS = [
 ]
 
 
-class Column(collections.namedtuple("Column", "key measurement times values decimals", defaults=[None])):
-    """Points of one series in their order. The values are texts or ints, as those of a point; or where decimals are named, whole numbers of so many."""
+class Column(collections.namedtuple("Column", "key measurement times values decimals unit", defaults=[None, 1])):
+    """Points of one series in their order. The times count units of so many nanoseconds. The values are texts or ints, as those of a point; or where
+    decimals are named, whole numbers of so many."""
+
+    __slots__ = ()
 
     def plain(self):
+        """The values as those of a point."""
         return self.values if self.decimals is None else [decimal_text(number, self.decimals) for number in self.values]
+
+    def slots(self, first, gap):
+        """The slots that the times lie in, of which the first one begins at a time in nanoseconds, and each has so many."""
+        times, unit = self.times, self.unit
+        if first % unit or gap % unit:
+            return [(time * unit - first) // gap for time in times]
+        first, gap = first // unit, gap // unit
+        return [time - first for time in times] if gap == 1 else [(time - first) // gap for time in times]
 
 
 class Busy(Exception):
@@ -128,10 +140,11 @@ class Intake:
     async def _make_missing(self, columns, outcome):
         """Makes the series that aren't there; each by the earliest of its points."""
         missing, claims = {}, {}
-        for key, measurement, times, *_ in columns:
+        for column in columns:
+            key, measurement = column.key, column.measurement
             known = self.stores.by_key.get(key)
             if known is None:
-                first = min(times)
+                first = min(column.times) * column.unit
                 missing[key] = (*missing[key][:2], min(first, missing[key][2])) if key in missing else (key, measurement, first)
             elif measurement is not None and known.measurement is None:
                 claims.setdefault(key, measurement)
@@ -162,7 +175,7 @@ class Intake:
         if measurement != owner and owner is not None and measurement is not None:
             outcome.drop(f"{text_of(known.key)} is of the measurement {owner!r}, not of {measurement!r}", len(column.times))
             return {}, 0
-        slots = [(time_of - first) // gap for time_of in column.times]
+        slots = column.slots(first, gap)
         numbers = column.values if column.decimals == scale else plain_numbers(column.plain(), scale)
         if numbers and min(slots) >= 0 and max(slots) <= LAST_SLOT:
             return dict(zip(slots, numbers)), len(slots)

@@ -73,7 +73,7 @@ class Reader:
         if found := of_one_series(piece):
             head, name, times, *values = found
             with contextlib.suppress(Bad):
-                return [Column(*self.key(head, name, database), [time * size for time in times], *values)]
+                return [Column(*self.key(head, name, database), times, *values, size)]
             return None
         if piece.count(b" ") != 2 * piece.count(b"\n") + 2 or any(sign in piece for sign in UNPLAIN):
             return None
@@ -83,25 +83,25 @@ class Reader:
             # Three words of each line, and behind them its end: so no line has another number of words.
             if ends.count("\n") != len(ends) or not are_digits(times):
                 return None
-            times, series = [int(time) * size for time in times], round_in(heads)
+            times, series = list(map(int, times)), round_in(heads)
             if series and (found := decimals_of(fields)):
                 name, values, decimals = found
                 part = len(series)
                 columns = [
-                    Column(*self.key(head, name, database), times[at::part], values[at::part], decimals) for at, head in enumerate(series)
+                    Column(*self.key(head, name, database), times[at::part], values[at::part], decimals, size) for at, head in enumerate(series)
                 ]
             else:
-                columns = list(self.by_head(by_head(heads, fields, times, series), database))
+                columns = list(self.by_head(by_head(heads, fields, times, series), database, size))
         except (ValueError, TypeError, Bad):
             return None
         # Of two columns of one series it isn't known which of their points came last.
         return columns if len({column.key for column in columns}) == len(columns) else None
 
-    def by_head(self, found, database):
+    def by_head(self, found, database, size):
         """The columns of heads, each with the fields and the times of its lines."""
         for head, (fields, times) in found.items():
             for name, values in columns_of(fields):
-                yield Column(*self.key(head, name, database), times, values)
+                yield Column(*self.key(head, name, database), times, values, None, size)
 
     def points(self, body, database, precision, now, outcome):
         """The points of a body, one by one, and None for a line or a field that is none. What is no point, and what is left out, is told by the
