@@ -34,14 +34,12 @@ class Extremes(unittest.TestCase):
         heads = ((head := self.host.stdout.read(4)) + self.host.stdout.read(int.from_bytes(head, "big")) for _ in lines)
         return list(heads)
 
-    def extremes(self, name, *window):
-        return extremes.extremes_of(self.ask(extremes.view_lines(child.WHOLE, name, *window))[1])
-
     def require_same(self, name, w, t0, t1):
         rows = list(child.rows_of(self.ask([child.view_line(name, w, 1, t0, t1)])[0]))
-        found = self.extremes(name, w, t0, t1)
-        self.assertEqual(found, tuple([row[place] for row in rows] for place in (0, 2, 3)), (name, w, t0, t1))
-        return found
+        frame = self.ask(extremes.view_lines(child.WHOLE, name, w, t0, t1))[1]
+        for place in (2, 3):
+            self.assertEqual(extremes.pairs_of(frame, place == 3), [(row[0], row[place]) for row in rows], (name, w, t0, t1))
+        return len(rows)
 
     def filled(self, name, step, share, draw):
         """A series of which some slots have values, in pieces with gaps between, far ones too."""
@@ -60,7 +58,7 @@ class Extremes(unittest.TestCase):
             for _ in range(60):
                 w, width = draw.choice((1, 2, 31, 500, 4096)), draw.randrange(1, 3000)
                 t0 = T + draw.randrange(-500, slots * step)
-                found += len(self.require_same(name, w, t0, t0 + w * width)[0])
+                found += self.require_same(name, w, t0, t0 + w * width)
         self.assertGreater(found, 1000)
 
     def test_ends_of_what_a_store_can_hold(self):
@@ -73,14 +71,14 @@ class Extremes(unittest.TestCase):
 
     def test_what_is_refused_or_cut_is_told(self):
         with self.assertRaises(child.Refused):
-            self.extremes("none", 1, 0, 1)
+            extremes.pairs_of(self.ask(extremes.view_lines(child.WHOLE, "none", 1, 0, 1))[1], True)
         self.filled("some", 1, 0.5, random.Random(7))
         frame = self.ask(extremes.view_lines(child.WHOLE, "some", 100, T, T + 10_000))[1]
         count = int.from_bytes(frame[84:88], "big")
         for at in range(count):
             cut = frame[:84] + (count - 1).to_bytes(4, "big") + frame[88 : 88 + 25 * at] + frame[113 + 25 * at :]
             with self.assertRaises(frames.Stopped):
-                extremes.extremes_of(cut)
+                extremes.pairs_of(cut, at % 2 == 0)
 
 
 if __name__ == "__main__":

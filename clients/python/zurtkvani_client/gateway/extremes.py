@@ -29,39 +29,34 @@ def view_lines(session, name, columns, t0, t1):
 
 
 def pairs_of(frame, is_greatest):
-    """Of such a view the columns, each with its least or its greatest value."""
-    columns, least, greatest = extremes_of(frame)
-    return list(zip(columns, greatest if is_greatest else least))
-
-
-def extremes_of(frame):
-    """Of a view whose columns are whole numbers wide, three lists: the columns that have a value, the least and the greatest of each. Raises Refused,
-    and Stopped where a coefficient is missing."""
+    """Of a view whose columns are whole numbers wide, each column that has a value with its least or its greatest one. Raises Refused, and Stopped where
+    a coefficient is missing."""
     if frame[4] != frames.VIEW:
         raise Refused(*done_or_refused(frame))
     _, w, _, t0, t1, _, _, start, step, slots, has_value, least, greatest, count = HEAD.unpack_from(frame, HEAD_AT)
     first, behind = max(0, -((start - t0) // step)), min(slots, -((start - t1) // step))
     if not has_value or first >= behind:
-        return [], [], []
+        return []
     top = next(7 * k for k in range(1, 6) if 128**k >= slots)
-    begins, ends, spans = pieces(numpy.frombuffer(frame, ITEM, count, ITEMS_AT), top, (least, greatest))
+    begins, ends, numbers = pieces(numpy.frombuffer(frame, ITEM, count, ITEMS_AT), top, greatest if is_greatest else least, is_greatest)
     shown = numpy.flatnonzero((begins < behind) & (ends > first))
     begins, lasts = begins.take(shown), ends.take(shown) - 1
     columns, columns_of_lasts = ((slots * step + (start - t0)) // ((t1 - t0) // w) for slots in (begins, lasts))
     if (begins < first).any() or (lasts >= behind).any() or (columns != columns_of_lasts).any():
         raise frames.Stopped("a coefficient is missing")
     order = numpy.argsort(columns, kind="stable")
-    columns, spans = columns.take(order), spans.take(shown.take(order), 0)
+    columns, numbers = columns.take(order), numbers.take(shown.take(order))
     runs = numpy.flatnonzero(numpy.diff(columns, prepend=-1))
-    ends = numpy.minimum.reduceat(spans[:, 0], runs), numpy.maximum.reduceat(spans[:, 1], runs)
-    return tuple(part.tolist() for part in (columns.take(runs), *ends))
+    found = (numpy.maximum if is_greatest else numpy.minimum).reduceat(numbers, runs)
+    return list(zip(columns.take(runs).tolist(), found.tolist()))
 
 
-def pieces(items, top, span):
-    """The keys that have a value and aren't split, of those from the top level down: of each its first slot, the one behind its last, and its span."""
+def pieces(items, top, number, is_greatest):
+    """The keys that have a value and aren't split, of those from the top level down: of each its first slot, the one behind its last, and its least
+    or greatest value, of which that of all is given."""
     if not len(items):
-        return numpy.array([0]), numpy.array([1 << top]), numpy.array([span])
-    keys, flags, dmins, dmaxs = (items[name].astype(numpy.int64) for name, *_ in ITEM)
+        return numpy.array([0]), numpy.array([1 << top]), numpy.array([number])
+    keys, flags, shifts = (items[name].astype(numpy.int64) for name in ("key", "flags", "dmax" if is_greatest else "dmin"))
     levels, indices = keys >> LEVEL, keys & (1 << LEVEL) - 1
     codes = (top - levels << LEVEL) + indices  # these rise, and so do those of the halves
     halves = numpy.stack((codes + indices, codes + indices + 1), 1).reshape(-1) + (1 << LEVEL)
@@ -72,17 +67,16 @@ def pieces(items, top, span):
     is_whole[places] = False
     whole = numpy.flatnonzero(is_whole)
     sizes, indices = levels.take(whole >> 1) - 1, halves.take(whole) & (1 << LEVEL) - 1
-    return indices << sizes, indices + 1 << sizes, halved(levels, dmins, dmaxs, places, span).take(whole, 0)
+    numbers = halved(levels, numpy.minimum if is_greatest else numpy.maximum, shifts, places, number)
+    return indices << sizes, indices + 1 << sizes, numbers.take(whole)
 
 
-def halved(levels, dmins, dmaxs, places, span):
-    """The spans of the halves of keys, found level by level."""
-    spans, shifts = numpy.empty((len(levels), 2), numpy.int64), numpy.stack((dmins, dmaxs, -dmins, -dmaxs), 1).reshape(-1, 2)
-    numpy.maximum(shifts[:, 0], 0, out=shifts[:, 0])
-    numpy.minimum(shifts[:, 1], 0, out=shifts[:, 1])
-    pairs, spans[0] = shifts.reshape(-1, 2, 2), span
+def halved(levels, less, shifts, places, number):
+    """The least or greatest values of the halves of keys, found level by level."""
+    numbers, found = numpy.empty(len(levels), numpy.int64), less(numpy.stack((shifts, -shifts), 1), 0)
+    numbers[0], flat = number, found.reshape(-1)
     bounds = [0, *(numpy.flatnonzero(numpy.diff(levels)) + 1).tolist(), len(levels)]
     for at, end, behind in zip(bounds, bounds[1:], [*bounds[2:], len(levels)]):
-        pairs[at:end] += spans[at:end, None]
-        spans[end:behind] = shifts.take(places[end - 1 : behind - 1], 0)
-    return shifts
+        found[at:end] += numbers[at:end, None]
+        numbers[end:behind] = flat.take(places[end - 1 : behind - 1])
+    return flat
