@@ -9,6 +9,15 @@ if MISSING:
     raise unittest.SkipTest(MISSING)
 
 from zurtkvani_client.gateway import collectd_points, csv_points, intake, line_protocol, remote_write  # noqa: E402
+from zurtkvani_client.unfit import Unfit  # noqa: E402
+
+
+def kept(value, scale):
+    """The number that a series keeps of a value, or the value that is too large."""
+    try:
+        return intake.number_of(value, scale)
+    except Unfit:
+        return value
 
 
 class LineProtocol(unittest.TestCase):
@@ -72,7 +81,7 @@ class LineProtocol(unittest.TestCase):
             def one_of(listed, count):
                 return draw.choice(listed if draw.random() < odd else listed[:count])
 
-            few, some, values, scale = draw.randrange(1, 5), draw.randrange(1, 8), draw.choice((texts, texts, fixed)), draw.choice((2, 3))
+            few, some, values, scale = draw.randrange(1, 5), draw.randrange(1, 8), draw.choice((texts, texts, fixed)), draw.choice((1, 2, 3))
             in_rounds = draw.random() < 0.4  # the heads one after the other, again and again, but for a slip
             heads_of = [heads[at % few] if in_rounds and draw.random() > odd else one_of(heads, few) for at in range(draw.randrange(1, 12))]
             lines = [" ".join((head, one_of(values, some), one_of(times, 4))) for head in heads_of]
@@ -83,9 +92,9 @@ class LineProtocol(unittest.TestCase):
             for model, of in zip(found, parts):
                 for column in (column for part in of for column in part):
                     fixed_columns += column.decimals is not None
-                    numbers = column.values if column.decimals == scale else intake.plain_numbers(column.plain(), scale)
+                    numbers = column.numbers(scale)
                     if numbers is None:
-                        numbers = [value if len(str(value)) > 15 else intake.number_of(value, scale) for value in column.plain()]
+                        numbers = [kept(value, scale) for value in column.plain()]
                     model.setdefault((column.key, column.measurement), []).extend(zip(column.slots(0, 1), numbers))
             self.assertEqual(*found, body)
             self.assertEqual(*[(outcome.errors, outcome.bad, outcome.left_out) for outcome in outcomes], body)

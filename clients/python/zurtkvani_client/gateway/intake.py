@@ -33,6 +33,15 @@ class Column(collections.namedtuple("Column", "key measurement times values deci
         """The values as those of a point."""
         return self.values if self.decimals is None else [decimal_text(number, self.decimals) for number in self.values]
 
+    def numbers(self, scale):
+        """The whole numbers that a series of a scale keeps of the values; None where these need a closer look."""
+        if self.decimals is None:
+            return plain_numbers(self.values, scale)
+        if self.decimals <= scale:
+            return self.values if self.decimals == scale else plain_numbers(self.values, scale - self.decimals)
+        factor = 10 ** (self.decimals - scale)
+        return [round(number, scale - self.decimals) // factor for number in self.values]  # half to even
+
     def slots(self, first, gap):
         """The slots that the times lie in, of which the first one begins at a time in nanoseconds, and each has so many."""
         times, unit = self.times, self.unit
@@ -176,7 +185,7 @@ class Intake:
             outcome.drop(f"{text_of(known.key)} is of the measurement {owner!r}, not of {measurement!r}", len(column.times))
             return {}, 0
         slots = column.slots(first, gap)
-        numbers = column.values if column.decimals == scale else plain_numbers(column.plain(), scale)
+        numbers = column.numbers(scale)
         if numbers and min(slots) >= 0 and max(slots) <= LAST_SLOT:
             return dict(zip(slots, numbers)), len(slots)
         values, count = {}, 0
