@@ -2,12 +2,12 @@
 import asyncio
 import time
 
-from ..run import IN_FLIGHT
 from ..set_lines import lines_by_slots
 from . import child
 from .log import tell
 from .stores import FULL
 
+TURN = 60  # lines of a turn: of one value they fill whole commits, each of which has room for 60, 30, 20, 15 or 12 series, as long as these are
 MOST_TRIES = 8  # of a turn whose run ended
 PAUSE = 0.05
 LOOK = 0.5  # seconds between two looks whether a store goes on
@@ -81,7 +81,7 @@ class Writer:
         refused, turn = {}, []
         for pair in batch.lines():
             turn.append(pair)
-            if len(turn) == IN_FLIGHT:
+            if len(turn) == TURN:
                 await self._turn(turn, refused)
                 turn = []
         if turn:
