@@ -14,7 +14,7 @@ from . import child, extremes
 COLUMNS = 4096  # of a view, and slots of which one line tells the values: those from one multiple of that to the next
 MOST_PARTS = 64 * COLUMNS
 MOST_LOST = 3
-TURN = 16  # views that are asked for at once
+TURN, FEW = 16, 4  # views that are asked for at once; and of those without rows, whose frames are larger
 LEAST_COST = 16  # of a view, as many rows cost
 LEAST, GREATEST, LAST = "least", "greatest", "last"  # of a window's values; and where a row has them
 PLACES = {LEAST: 2, GREATEST: 3, LAST: 4}
@@ -47,12 +47,12 @@ class Reads:
                 await asyncio.sleep(0.1 * at)
         raise child.Down("the store's run ends before it answers")
 
-    async def told(self, keeper, asked, told):
+    async def told(self, keeper, asked, told, turn=TURN):
         """What each view, or each line of values, tells: a list of lines, of whose frames it is the middle one that counts. A few are asked for at a
         time, all in one turn, so that others have theirs."""
         found = []
-        for at in range(0, len(asked), TURN):
-            part = asked[at : at + TURN]
+        for at in range(0, len(asked), turn):
+            part = asked[at : at + turn]
             self.spend(LEAST_COST * len(part))
             self.counts.add("views_total", len(part))
             frames = iter(await self.ask(keeper, [line for lines in part for line in lines]))
@@ -60,6 +60,7 @@ class Reads:
                 own = list(islice(frames, len(lines)))
                 found.append(told(own[len(own) // 2]))
                 self.spend(len(found[-1]))
+                await asyncio.sleep(0)
         return found
 
     async def columns(self, known, t0, width, count, what):
@@ -72,7 +73,7 @@ class Reads:
         spans = [(part, t0 + at * width, t0 + (at + part) * width) for at, part in parts]
         if what != LAST and width >= WIDE * known.record.step and extremes.numpy:
             asked = [extremes.view_lines(child.WHOLE, known.name, *span) for span in spans]
-            found = await self.told(known.keeper, asked, lambda frame: extremes.pairs_of(frame, what == GREATEST))
+            found = await self.told(known.keeper, asked, lambda frame: extremes.pairs_of(frame, what == GREATEST), FEW)
         else:
             asked = [[child.view_line(known.name, part, 1, begin, end)] for part, begin, end in spans]
             found = await self.told(known.keeper, asked, lambda frame: child.pairs_of(frame, PLACES[what]))
