@@ -1,6 +1,7 @@
 """The gateway beside influxd and prometheus: points a second that are written durably, and range queries over a long series. See bench/run."""
 import contextlib
 import functools
+import gc
 import http.client
 import json
 import os
@@ -241,6 +242,8 @@ def greatest_by_influxql(port, begin, step):
 
 def measure_queries(servers):
     """The seconds of range queries of each server, in turns: the middle one, and that below which 99 of 100 lie."""
+    # Else now and then an answer would wait for this process's own collection of garbage, which looks at all values: for 0.1 s.
+    gc.freeze()
     print(f"milliseconds of the greatest of {STEPS} steps over {QUERIED:,} points: middle, 99th of 100, and how many; load {os.getloadavg()[0]:.1f}")
     for share in (100, 10, 1):
         step = QUERIED // share // STEPS

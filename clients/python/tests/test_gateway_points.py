@@ -9,6 +9,15 @@ if MISSING:
     raise unittest.SkipTest(MISSING)
 
 from zurtkvani_client.gateway import collectd_points, csv_points, intake, line_protocol, remote_write  # noqa: E402
+from zurtkvani_client.unfit import Unfit  # noqa: E402
+
+
+def kept(value, scale):
+    """The number that a series keeps of a value, or the value that is too large."""
+    try:
+        return intake.number_of(value, scale)
+    except Unfit:
+        return value
 
 
 class LineProtocol(unittest.TestCase):
@@ -60,10 +69,11 @@ class LineProtocol(unittest.TestCase):
         self.assertEqual(self.points("w,db=x v=1 1")[0][0][0], {"__name__": "w_v", "db": "x"})
 
     def test_columns_have_what_lines_have(self):
-        draw, plain = random.Random(8), 0
+        draw, plain, fixed_columns = random.Random(8), 0, 0
         heads = ["w", "w,a=1", "w,b=2,a=1", "w,a=1,b=2", "ä,ö=ü", "w,a=1,a=2", "w,a=", ",a=1", "w\\ x", "#w", ""]
         texts = ["v=1", "v=1.5", "v=-0.001", "v=5i", "v=7u", "v=1e3", "v=.5", "v=1.", "v=t", "v=nan", "v=", "v", "=1", "v=x", "u=1", "v=1,u=2", "v=1,v=2",
                  "v=1,u=2i", "v=1,u=NaN", "v=1,", "v=1=2", "v=1_0", "v=1.2345", "v=-", 'v="a b"', "v=" + "9" * 20]
+        fixed = ["v=1.50", "v=-20.25", "v=-0.00", "v=0.07", "v=9999999999999999.99", "v=99999999999999999.99", "v=007.25", "v=1.5", "v=.25", "v=2.2 5"]
         times = ["1", "2", "3", "4", "-1", "", "soon", "1_0", "99999999999999999999", "+1"]
         for _ in range(3000):
             odd = draw.choice((0, 0, 0.02, 0.2))
@@ -71,23 +81,25 @@ class LineProtocol(unittest.TestCase):
             def one_of(listed, count):
                 return draw.choice(listed if draw.random() < odd else listed[:count])
 
-            few, some = draw.randrange(1, 5), draw.randrange(1, 8)
+            few, some, values, scale = draw.randrange(1, 5), draw.randrange(1, 8), draw.choice((texts, texts, fixed)), draw.choice((1, 2, 3))
             in_rounds = draw.random() < 0.4  # the heads one after the other, again and again, but for a slip
             heads_of = [heads[at % few] if in_rounds and draw.random() > odd else one_of(heads, few) for at in range(draw.randrange(1, 12))]
-            lines = [" ".join((head, one_of(texts, some), one_of(times, 4))) for head in heads_of]
+            lines = [" ".join((head, one_of(values, some), one_of(times, 4))) for head in heads_of]
             body = (one_of(["\n", "\r\n", "\n\n", " \n"], 1).join(lines) + draw.choice(["", "\n"])).encode()
             reader, found, outcomes = line_protocol.Reader("db", "_"), [{}, {}], [intake.Outcome(), intake.Outcome()]
             parts = (reader.parts(body, "", "s", 5, outcomes[0]), intake.parts_of(reader.points(body, "", "s", 5, outcomes[1])))
             plain += reader.columns(body.rstrip(b"\n"), "", 1) is not None
             for model, of in zip(found, parts):
                 for column in (column for part in of for column in part):
-                    numbers = intake.plain_numbers(column.values, 3)
+                    fixed_columns += column.decimals is not None
+                    numbers = column.numbers(scale)
                     if numbers is None:
-                        numbers = [value if len(str(value)) > 15 else intake.number_of(value, 3) for value in column.values]
-                    model.setdefault((column.key, column.measurement), []).extend(zip(column.times, numbers))
+                        numbers = [kept(value, scale) for value in column.plain()]
+                    model.setdefault((column.key, column.measurement), []).extend(zip(column.slots(0, 1), numbers))
             self.assertEqual(*found, body)
             self.assertEqual(*[(outcome.errors, outcome.bad, outcome.left_out) for outcome in outcomes], body)
         self.assertGreater(plain, 1000)
+        self.assertGreater(fixed_columns, 500)
 
     def test_a_long_body_is_read_piece_by_piece(self):
         body = "".join(f"w,n={at % 3} v={at}.250,u={at}i {at}\n" for at in range(20_000)).encode()
@@ -97,7 +109,7 @@ class LineProtocol(unittest.TestCase):
         self.assertEqual(sum(len(column.times) for part in parts for column in part), 40_000)
         long = b"w v=1 1\n" + b"x" * 2**19 + b" v=2 2\nw v=3 3"
         found = [column for part in line_protocol.Reader("db", "_").parts(long, "", "s", 5, outcome) for column in part]
-        self.assertEqual([list(column.times) for column in found], [[10**9], [2 * 10**9], [3 * 10**9]])
+        self.assertEqual([column.slots(0, 1) for column in found], [[10**9], [2 * 10**9], [3 * 10**9]])
 
     def test_random_points_are_those_that_influxdbs_client_wrote(self):
         try:

@@ -48,7 +48,8 @@ class Reads(OverAGateway):
         ways = set()
         for name, fold in self.FOLDS.items():
             for start, end, step, length in (
-                (T, T + 2999, 60, 60), (T + 90, T + 800, 3, 300), (T, T + 3500, 500, 20), (T - 500, T + 4000, 50, 120), (T + 13, T + 2000, 7, 1), (T + 5, T + 2500, 119, 61), (T + 100, T + 100, 60, 600),
+                (T, T + 2999, 60, 60), (T + 90, T + 800, 3, 300), (T, T + 3500, 500, 20), (T - 500, T + 4000, 50, 120), (T + 13, T + 2000, 7, 1), (T + 5, T + 2500, 119, 61), (T + 100, T + 100, 60, 600), (T + 10, T + 3500, 600, 600),
+                (T - 300, T + 3500, 300, 900),
             ):
                 with self.subTest(name, step=step, length=length):
                     found, way = self.ranged(f"{name}_over_time(a_v[{length}s])", start, end, step)

@@ -12,10 +12,11 @@ def line_of(name, time, values):
 
 def lines_by_slots(name, start, step, values):
     """The lines that store values by their slots. A line that isn't the last of its run ends where a leaf does, so that few pages are touched."""
-    slots = sorted(values)
-    if len(slots) < 2:
-        yield from [line_of(name, start + slot * step, [values[slot]]) for slot in slots]
+    if len(values) < 2:
+        for slot, value in values.items():
+            yield f"set {name} {start + slot * step} {value}".encode()
         return
+    slots = sorted(values)
     is_whole = slots[-1] - slots[0] == len(slots) - 1
     ends = [] if is_whole else [at for at, (slot, later) in enumerate(zip(slots, slots[1:]), 1) if later - slot != 1]
     begin = 0

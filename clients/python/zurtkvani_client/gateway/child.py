@@ -23,6 +23,7 @@ READ = 2**18  # bytes that are read at once
 DONE_BYTES = 4 + frames.LENGTHS[frames.DONE][0]
 SESSION = 1  # the one session of a run; its views have a filter, so its client keeps nothing
 OPEN = b"open %d 1" % SESSION
+WHOLE = 2  # the number of the session that is open for a view alone, opened before it and closed behind it in one turn
 LIST = b"list"
 COMMAND = "host"
 CHANGING = (*EDITS, b"sweep")  # the words of lines behind which sessions are pushed what they follow
@@ -91,10 +92,11 @@ class Run:
     async def turn(self, lines):
         """Sends lines, at most 64, and gives the bytes of their frames. Raises Lost; the run is ended then."""
         try:
-            answers = await asyncio.wait_for(self._answers(lines), MOST_SECONDS)
+            async with asyncio.timeout(MOST_SECONDS):
+                answers = await self._answers(lines)
             self.answered += len(lines)
             return answers
-        except (asyncio.TimeoutError, ConnectionError) as why:
+        except (TimeoutError, ConnectionError) as why:
             with contextlib.suppress(ProcessLookupError):
                 self.child.kill()
             raise Lost(str(why) or f"no answer within {MOST_SECONDS} s") from None
@@ -190,7 +192,8 @@ class Keeper:
         """The frames of lines, of which each 64 are one turn. Raises Down, Lost, and TimeoutError where no run stands in time."""
         answers = []
         for at in range(0, len(lines), IN_FLIGHT):
-            await asyncio.wait_for(self.is_up.wait(), seconds)
+            async with asyncio.timeout(seconds):
+                await self.is_up.wait()
             answers += await self._asked(lines[at : at + IN_FLIGHT])
         return answers
 
@@ -368,6 +371,11 @@ def rows_of(frame):
     if frame[4] != frames.ROWS:
         raise Refused(*done_or_refused(frame))
     return struct.iter_unpack(">Hqqqq", memoryview(frame)[31:])
+
+
+def pairs_of(frame, place):
+    """Of the rows of a view the columns, each with what stands in one place of its row."""
+    return [(row[0], row[place]) for row in rows_of(frame)]
 
 
 def picture_of(opened, frame):

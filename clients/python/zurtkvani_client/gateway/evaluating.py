@@ -7,7 +7,7 @@ from decimal import Decimal
 from .labels import NAME
 from .matching import matches
 from .promql import Aggregate, Call, Number, Selector, Wrong
-from .reading import Windows
+from .reading import GREATEST, LAST, LEAST, Windows
 
 # Sums, differences and products of a few stored values have no more digits; a quotient is rounded to so many.
 EXACT = decimal.Context(prec=60, traps=[])
@@ -67,18 +67,17 @@ class Evaluation:
 
     async def selected(self, known):
         """A series as it is at each time: its last value of those that lie no longer back than the lookback, or than two steps of the series."""
-        rows = await self.reads.rows(known, self.windows(max(self.lookback, 2 * known.gap)))
-        return Line(known.labels, [row and row.last for row in rows], known.record.scale)
+        found = await self.reads.folded(known, self.windows(max(self.lookback, 2 * known.gap)), LAST)
+        return Line(known.labels, found, known.record.scale)
 
     async def called(self, tree, known):
         labels = {label: value for label, value in known.labels.items() if label != NAME}
         if tree.name in ("avg_over_time", "sum_over_time", "count_over_time"):
             sums = await self.reads.sums(known, self.windows(tree.selector.range))
             return Line(labels, [over(tree.name, total, count, known) for total, count in sums])
-        rows = await self.reads.rows(known, self.windows(tree.selector.range))
-        field = {"min_over_time": "least", "max_over_time": "greatest", "last_over_time": "last"}[tree.name]
-        labels = known.labels if field == "last" else labels
-        return Line(labels, [row and getattr(row, field) for row in rows], known.record.scale)
+        what = {"min_over_time": LEAST, "max_over_time": GREATEST, "last_over_time": LAST}[tree.name]
+        found = await self.reads.folded(known, self.windows(tree.selector.range), what)
+        return Line(known.labels if what == LAST else labels, found, known.record.scale)
 
     def aggregated(self, tree, lines):
         if isinstance(lines, list) and lines and not isinstance(lines[0], Line):

@@ -4,7 +4,7 @@ import collections
 import re
 import time
 
-from ..decimals import MOST, whole_number
+from ..decimals import MOST, decimal_text, whole_number
 from ..grids import LAST_SLOT
 from ..scales import MOST_SCALE
 from ..unfit import Unfit
@@ -17,12 +17,38 @@ SHOWN = 5  # bad lines, and reasons, that an answer tells
 MOST_WORDS = 400  # signs of one of them
 
 Point = collections.namedtuple("Point", "key measurement time value")  # the time in nanoseconds, the value a text or an int
-# Points of one series in their order.
-Column = collections.namedtuple("Column", "key measurement times values")
 # For each scale the texts, each with a space behind it, that are so many decimals each, and small enough.
 WITH_DECIMALS = [
     re.compile(rf"(?:-?\d{{1,{18 - scale}}}" + (rf"[.]\d{{{scale}}}" if scale else "") + " )++", re.ASCII) for scale in range(MOST_SCALE + 1)
 ]
+
+
+class Column(collections.namedtuple("Column", "key measurement times values decimals unit", defaults=[None, 1])):
+    """Points of one series in their order. The times count units of so many nanoseconds. The values are texts or ints, as those of a point; or where
+    decimals are named, whole numbers of so many."""
+
+    __slots__ = ()
+
+    def plain(self):
+        """The values as those of a point."""
+        return self.values if self.decimals is None else [decimal_text(number, self.decimals) for number in self.values]
+
+    def numbers(self, scale):
+        """The whole numbers that a series of a scale keeps of the values; None where these need a closer look."""
+        if self.decimals is None:
+            return plain_numbers(self.values, scale)
+        if self.decimals <= scale:
+            return self.values if self.decimals == scale else plain_numbers(self.values, scale - self.decimals)
+        factor = 10 ** (self.decimals - scale)
+        return [round(number, scale - self.decimals) // factor for number in self.values]  # half to even
+
+    def slots(self, first, gap):
+        """The slots that the times lie in, of which the first one begins at a time in nanoseconds, and each has so many."""
+        times, unit = self.times, self.unit
+        if first % unit or gap % unit:
+            return [(time * unit - first) // gap for time in times]
+        first, gap = first // unit, gap // unit
+        return [time - first for time in times] if gap == 1 else [(time - first) // gap for time in times]
 
 
 class Busy(Exception):
@@ -78,32 +104,39 @@ class Intake:
             waiting += await self._part(columns, outcome)
         for batch, counts in waiting:
             refused = await batch.stored(self.given.seconds / 10**9)
-            for known, count in counts.items():
-                self._settle(refused.get(known), known, count, outcome)
+            outcome.taken += sum(counts.values())
+            for known in counts if refused else ():
+                if known in refused:
+                    self._settle(refused[known], known, counts[known], outcome)
         self.counts.add("points_total", outcome.taken)
         self.counts.add("dropped_points_total", outcome.dropped)
         self.counts.add("left_out_total", outcome.left_out)
 
-    def _settle(self, refusal, known, count, outcome):
-        if refusal is None:
-            outcome.taken += count
-        elif refusal.number == FULL:
+    @staticmethod
+    def _settle(refusal, known, count, outcome):
+        if refusal.number == FULL:
             raise NoRoom(f"{known.keeper.path} is full")
-        else:
-            outcome.drop(f"{text_of(known.key)}: refusal {refusal.number}", count)
+        outcome.taken -= count
+        outcome.drop(f"{text_of(known.key)}: refusal {refusal.number}", count)
 
     async def _part(self, columns, outcome):
         """Hands some points to the writers, and gives the batches that they are of, each with how many of each series."""
-        await self._make_missing(columns, outcome)
+        series = [self.stores.by_key.get(column.key) for column in columns]
+        if not all(known and (known.measurement or column.measurement is None) for known, column in zip(series, columns)):
+            await self._make_missing(columns, outcome)
+            series = [self.stores.by_key.get(column.key) for column in columns]
         batches = {}
-        for column in columns:
-            known = self.stores.by_key.get(column.key)
+        for known, column in zip(series, columns):
             values, count = self._placed(known, column, outcome) if known else ({}, 0)
             if values:
-                counts = batches.setdefault(self.writer_of(known.keeper).add(known, values), {})
+                # Nobody else has a turn until the columns are through, so the batch of a store stays the same.
+                if known.keeper not in batches:
+                    batches[known.keeper] = self.writer_of(known.keeper).gathering(), {}
+                batch, counts = batches[known.keeper]
+                batch.add(known, values)
                 counts[known] = counts.get(known, 0) + count
-        await self._until_room(batches)
-        return list(batches.items())
+        await self._until_room([batch for batch, _ in batches.values()])
+        return list(batches.values())
 
     async def _until_room(self, batches):
         """Others have their turn here; and a request of more points than may wait goes on as the disk takes them."""
@@ -116,11 +149,13 @@ class Intake:
     async def _make_missing(self, columns, outcome):
         """Makes the series that aren't there; each by the earliest of its points."""
         missing, claims = {}, {}
-        for key, measurement, times, _ in columns:
-            if key not in self.stores.by_key:
-                first = min(times)
+        for column in columns:
+            key, measurement = column.key, column.measurement
+            known = self.stores.by_key.get(key)
+            if known is None:
+                first = min(column.times) * column.unit
                 missing[key] = (*missing[key][:2], min(first, missing[key][2])) if key in missing else (key, measurement, first)
-            elif measurement is not None and key not in self.stores.names.measurements:
+            elif measurement is not None and known.measurement is None:
                 claims.setdefault(key, measurement)
         if claims:
             await self._whole(self.stores.claim(claims.items()))
@@ -144,17 +179,17 @@ class Intake:
 
     def _placed(self, known, column, outcome):
         """The slots of a series' points, those that their times lie in, each with its last value; and how many points these are."""
-        owner, first, gap, scale = self.stores.names.measurements.get(known.key), known.first, known.gap, known.record.scale
+        owner, first, gap, scale = known.measurement, known.first, known.gap, known.record.scale
         measurement = column.measurement
         if measurement != owner and owner is not None and measurement is not None:
             outcome.drop(f"{text_of(known.key)} is of the measurement {owner!r}, not of {measurement!r}", len(column.times))
             return {}, 0
-        slots = [(time_of - first) // gap for time_of in column.times]
-        numbers = plain_numbers(column.values, scale)
+        slots = column.slots(first, gap)
+        numbers = column.numbers(scale)
         if numbers and min(slots) >= 0 and max(slots) <= LAST_SLOT:
             return dict(zip(slots, numbers)), len(slots)
         values, count = {}, 0
-        for slot, value in zip(slots, column.values):
+        for slot, value in zip(slots, column.plain()):
             if not 0 <= slot <= LAST_SLOT:
                 outcome.drop(f"{text_of(known.key)}: a time lies " + ("before the series' start" if slot < 0 else "too far behind its start"))
                 continue

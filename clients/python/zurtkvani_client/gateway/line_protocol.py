@@ -2,8 +2,10 @@
 
 A point is of the series whose name is the measurement and the field, and whose labels are the tags.
 """
+import contextlib
 import re
 
+from ..scales import MOST_SCALE
 from .intake import Column, Point, parts_of
 from .labels import NAME, key_of
 
@@ -24,6 +26,10 @@ NO_NUMBER = {"nan", "inf", "+inf", "-inf", "infinity"}
 # Texts, each with a space behind it, that are all numbers without an exponent, or all whole ones as `5i`.
 NUMBERS = re.compile(r"(?:-?\d++(?:[.]\d*+)? )++", re.ASCII)
 INTEGERS = re.compile(r"(?:-?\d++[iu] )++", re.ASCII)
+# For each number of decimals the texts, each with a space behind it, that have so many; and the same where behind each a time stands.
+FIXED = [rf"-?(?:0|[1-9]\d{{0,{17 - scale}}})" + (rf"[.]\d{{{scale}}} " if scale else " ") for scale in range(MOST_SCALE + 1)]
+VALUES = [re.compile(f"(?:{one})++", re.ASCII) for one in FIXED]
+VALUES_AND_TIMES = [re.compile(rf"(?:{one}\d{{1,19}} )++".encode()) for one in FIXED]
 UNPLAIN = (b"\\", b'"', b"#", b"\r", b"\t")  # signs of lines that need a closer look
 PIECE = 2**18  # bytes of a body that are read before others have their turn
 MOST_JOINED = 2**16  # bytes of a line with line feeds within its texts
@@ -64,6 +70,11 @@ class Reader:
     def columns(self, piece, database, size):
         """The columns of lines that are all plain: one space on each side of the fields, numbers without an exponent, and the same fields in all
         lines of a head. None where they aren't: then each line is read by itself."""
+        if found := of_one_series(piece):
+            head, name, times, *values = found
+            with contextlib.suppress(Bad):
+                return [Column(*self.key(head, name, database), times, *values, size)]
+            return None
         if piece.count(b" ") != 2 * piece.count(b"\n") + 2 or any(sign in piece for sign in UNPLAIN):
             return None
         try:
@@ -72,15 +83,25 @@ class Reader:
             # Three words of each line, and behind them its end: so no line has another number of words.
             if ends.count("\n") != len(ends) or not are_digits(times):
                 return None
-            times = [int(time) * size for time in times]
-            columns = []
-            for head, (fields_of_head, times_of_head) in by_head(heads, fields, times).items():
-                for name, values in columns_of(fields_of_head):
-                    columns.append(Column(*self.key(head, name, database), times_of_head, values))
+            times, series = list(map(int, times)), round_in(heads)
+            if series and (found := decimals_of(fields)):
+                name, values, decimals = found
+                part = len(series)
+                columns = [
+                    Column(*self.key(head, name, database), times[at::part], values[at::part], decimals, size) for at, head in enumerate(series)
+                ]
+            else:
+                columns = list(self.by_head(by_head(heads, fields, times, series), database, size))
         except (ValueError, TypeError, Bad):
             return None
         # Of two columns of one series it isn't known which of their points came last.
         return columns if len({column.key for column in columns}) == len(columns) else None
+
+    def by_head(self, found, database, size):
+        """The columns of heads, each with the fields and the times of its lines."""
+        for head, (fields, times) in found.items():
+            for name, values in columns_of(fields):
+                yield Column(*self.key(head, name, database), times, values, None, size)
 
     def points(self, body, database, precision, now, outcome):
         """The points of a body, one by one, and None for a line or a field that is none. What is no point, and what is left out, is told by the
@@ -150,13 +171,45 @@ def are_digits(times):
     return joined.isascii() and joined.isdecimal() and max(map(len, times)) <= 19
 
 
-def by_head(heads, fields, times):
-    """For each head the fields and the times of its lines."""
-    round_of, count = heads[: heads.index(heads[0], 1) if heads.count(heads[0]) > 1 else None], len(heads)
-    size = len(round_of)
-    # Collectors send a round of their series, time by time.
-    if len(set(round_of)) == size and (round_of * (count // size + 1))[:count] == heads:
-        return {head: (fields[at::size], times[at::size]) for at, head in enumerate(round_of)}
+def round_in(heads):
+    """The different heads that follow each other again and again, as where a collector sends a round of its series, time by time; else None."""
+    found, count = heads[: heads.index(heads[0], 1) if heads.count(heads[0]) > 1 else None], len(heads)
+    size = len(found)
+    return found if len(set(found)) == size and (found * (count // size + 1))[:count] == heads else None
+
+
+def decimals_of(fields):
+    """Of fields that all have one name, and values of as many decimals: the name, the values as whole numbers, and how many decimals these are. None
+    where they aren't so, or may be too large."""
+    name, sign, value = fields[0].partition("=")
+    decimals, text = len(value.partition(".")[2]), f" {' '.join(fields)} ".replace(f" {name}{sign}", " ")
+    if not name or not sign or decimals > MOST_SCALE or not VALUES[decimals].fullmatch(text, 1):
+        return None
+    return name, list(map(int, text.replace(".", "").split())), decimals
+
+
+def of_one_series(piece):
+    """The same of lines that all have one head too: this head, the name, the times, the values and their decimals. None where they aren't so."""
+    start = piece[: piece.find(b"=", piece.find(b" ")) + 1]
+    head, space, name = start[:-1].partition(b" ")
+    if not head or not name or b" " in name or b"\n" in start or any(sign in start for sign in UNPLAIN):
+        return None
+    decimals = len(piece[len(start) : piece.find(b" ", len(start))].partition(b".")[2])
+    text = b"%b " % (b"\n" + piece).replace(b"\n" + start, b" ")
+    if decimals > MOST_SCALE or not VALUES_AND_TIMES[decimals].fullmatch(text, 1):
+        return None
+    try:
+        head, name = head.decode(), name.decode()
+    except UnicodeDecodeError:
+        return None
+    numbers = list(map(int, text.replace(b".", b"").split()))
+    return head, name, numbers[1::2], numbers[::2], decimals
+
+
+def by_head(heads, fields, times, series):
+    """For each head the fields and the times of its lines, whose heads are some series again and again, or None."""
+    if series:
+        return {head: (fields[at :: len(series)], times[at :: len(series)]) for at, head in enumerate(series)}
     found = {}
     for head, field, time in zip(heads, fields, times):
         if head in found:

@@ -1,6 +1,7 @@
 """The HTTP server of a gateway: its addresses, its limits of connections, its start and its end."""
 import asyncio
 import contextlib
+import gc
 import json
 import logging
 import shutil
@@ -65,7 +66,8 @@ async def turn_of(gateway, answer):
         yield
         return
     try:
-        await asyncio.wait_for(gateway.reading.acquire(), gateway.given.read.seconds / 10**9)
+        async with asyncio.timeout(gateway.given.read.seconds / 10**9):
+            await gateway.reading.acquire()
     except TimeoutError:
         raise web.HTTPServiceUnavailable(text="too many queries at once\n", headers={"Retry-After": "5"}) from None
     try:
@@ -193,6 +195,8 @@ async def serve(given):
         await site.start()
         if not page_http.folder_of(given.page):
             tell("the page isn't there", "warning", folder=given.page.folder or "beside the package")
+        # What is there from the start stays: no collection of garbage, behind which requests wait, looks at it again.
+        gc.freeze()
         tell("the gateway listens", address=str(given.listen.address), port=given.listen.port, series=len(gateway.stores.by_key))
         await ended.wait()
         tell("the gateway ends")

@@ -12,7 +12,6 @@ from ..page_rules import OPENED, UNKNOWN_SESSION, gives_way, refusal_in
 from . import child
 
 MOST_OWN = 14
-WHOLE = 2  # the number of the session that is open for a view alone
 FIRST_OWN = 3
 MOST_LOST = 8  # runs that end before they answer
 PAUSE = 0.1
@@ -88,7 +87,7 @@ class Sessions:
         """The frames of a view or a sum for whoever has a client that keeps so many coefficients: those of a session that is opened for it and closed behind
         it. A refusal stands alone."""
         for at in range(MOST_LOST):
-            frames = await self.asked([b"open %d %d" % (WHOLE, cache), b"%b %d %b" % (word, WHOLE, words), b"close %d" % WHOLE], at)
+            frames = await self.asked([b"open %d %d" % (child.WHOLE, cache), b"%b %d %b" % (word, child.WHOLE, words), b"close %d" % child.WHOLE], at)
             if frames is not None:
                 return [frames[1]] if refusal_in(frames[1]) else frames
         raise child.Down("the store's runs end before they answer")

@@ -28,13 +28,10 @@ class Known:
     """A series: its labels outside, its record in its store, and the same grid in nanoseconds."""
 
     def __init__(self, key, keeper, record):
-        self.key, self.keeper, self.record, self.place = key, keeper, record, 0  # which one of its store's series it is, as they were made
+        self.key, self.keeper, self.record, self.name = key, keeper, record, record.name
+        self.place, self.measurement = 0, None  # which one of its store's series it is, as they were made; and the measurement that it is of
         self.unit = UNITS[unit_of(record.start)]
         self.first, self.gap, self.slots = record.start * self.unit, record.step * self.unit, record.slots
-
-    @property
-    def name(self):
-        return self.record.name
 
     @property
     def labels(self):
@@ -121,7 +118,7 @@ class Stores:
     def _take(self, known):
         if known.key in self.by_key:
             return
-        known.place = next(self.places)
+        known.place, known.measurement = next(self.places), self.names.measurements.get(known.key)
         self.by_key[known.key] = self.inner[known.name] = known
         self.by_name.setdefault(known.labels.get(NAME, ""), []).append(known)
 
@@ -145,6 +142,8 @@ class Stores:
         """Notes for series that are there the measurements that they are of."""
         async with self.making:
             await asyncio.to_thread(self.names.add, pairs, self.inner.__contains__)
+            for key, _ in pairs:
+                self.by_key[key].measurement = self.names.measurements.get(key)
 
     async def _create(self, grids):
         lost = 0

@@ -2,12 +2,12 @@
 import asyncio
 import time
 
-from ..run import IN_FLIGHT
 from ..set_lines import lines_by_slots
 from . import child
 from .log import tell
 from .stores import FULL
 
+TURN = 60  # lines of a turn: of one value they fill whole commits, each of which has room for 60, 30, 20, 15 or 12 series, as long as these are
 MOST_TRIES = 8  # of a turn whose run ended
 PAUSE = 0.05
 LOOK = 0.5  # seconds between two looks whether a store goes on
@@ -22,7 +22,9 @@ class Batch:
         self.done.add_done_callback(lambda done: done.cancelled() or done.exception())
 
     def add(self, known, slots):
-        self.values.setdefault(known, {}).update(slots)
+        held = self.values.setdefault(known, slots)
+        if held is not slots:
+            held.update(slots)
         self.count += len(slots)
 
     async def stored(self, seconds):
@@ -54,11 +56,10 @@ class Writer:
         """How many points aren't answered."""
         return sum(batch.count for batch in (self.batch, self.working) if batch)
 
-    def add(self, known, slots):
-        """Takes in points, and gives the batch that they are of."""
+    def gathering(self):
+        """The batch that takes in points until the one before is stored."""
         if self.batch is None:
             self.batch = Batch(self)
-        self.batch.add(known, slots)
         if self.task is None or self.task.done():
             self.progress = time.monotonic()
             self.task = asyncio.create_task(self._work())
@@ -80,7 +81,7 @@ class Writer:
         refused, turn = {}, []
         for pair in batch.lines():
             turn.append(pair)
-            if len(turn) == IN_FLIGHT:
+            if len(turn) == TURN:
                 await self._turn(turn, refused)
                 turn = []
         if turn:
